@@ -27,6 +27,8 @@ WORDS = TYPES | {"OutOfMemory", REPLY}
 KNOWN = [
     ("settings_check/src/read.rt", "document", 1, "the TOML reader's error says that it is want of memory"),
     ("text_slice/src/text_slice.rt", "whole", 1, "a place in a block has 32 bits, and this block has more bytes"),
+    ("span_pool/src/pool.rt", "put", 1, "a key has 32 bits, and the vacant one has more"),
+    ("text_pool/src/pool.rt", "put", 1, "the same of a text"),
     ("tenant_pipeline/src/outbox.rt", "offer", 1, "the queue gives the batch back with its want of memory"),
     ("tail_settings/src/document.rt", "table", 1, "the TOML reader's error says that it is want of memory"),
     ("trace_collector_program/src/serve.rt", "from", 1, "a thread wasn't started for want of what one is started with"),

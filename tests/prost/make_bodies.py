@@ -2,11 +2,13 @@
 """make_bodies.py STORED FOLDER: bodies to make ready, and to decode and encode by prost.
 
 request.pb is the stored body. Of its spans each tenth (tenth.pb) or each (anew.pb) has an empty trace state first, so
-that its text isn't canonical. Half of oneN.pb and scopesN.pb, of some N bytes, is attributes of one resource, half is
-spans of 30 bytes, in one scope or each in a scope of its own. emptyN.pb is spans of no fields. Each of the others has
-100 spans of some 480 bytes, with 19 fields each: in their order (ordered.pb), with the flags before the name
-(flags.pb), there with a count of 0 besides (count.pb), with the name at the end (last.pb), in reverse order
-(reverse.pb), and so with the name twice (twice.pb)."""
+that its text isn't canonical. A code of 0 is written in each span's status (code.pb), a count of 0 in each event and
+link (counts.pb), or both, and three counts of 0 in each span besides (written.pb), and so with the flags before the
+name (late.pb). Half of oneN.pb and scopesN.pb, of some N bytes, is attributes of one resource, half is spans of 30
+bytes, in one scope or each in a scope of its own. emptyN.pb is spans of no fields. Each of the others has 100 spans
+of some 480 bytes, with 19 fields each: in their order (ordered.pb), with the flags before the name (flags.pb), there
+with a count of 0 besides (count.pb), with the name at the end (last.pb), in reverse order (reverse.pb), and so with
+the name twice (twice.pb)."""
 import pathlib
 import struct
 import sys
@@ -56,21 +58,61 @@ def fields(text):
     return found
 
 
-def anew(body, every):
-    count = 0
-
-    def span(content, spelled):
-        nonlocal count
-        count += 1
-        return piece(2, b"\x1a\x00" + content) if count % every == 0 else spelled
-
+def changed(body, span):
+    """The body with each span's text changed so."""
     def scope(text):
-        return b"".join(span(c, s) if n == 2 else s for n, c, s in fields(text))
+        return b"".join(piece(2, span(c)) if n == 2 else s for n, c, s in fields(text))
 
     def group(text):
         return b"".join(piece(2, scope(c)) if n == 2 else s for n, c, s in fields(text))
 
     return b"".join(piece(1, group(c)) for _, c, _ in fields(body))
+
+
+def anew(body, every):
+    count = 0
+
+    def span(content):
+        nonlocal count
+        count += 1
+        return b"\x1a\x00" + content if count % every == 0 else content
+
+    return changed(body, span)
+
+
+def number_of_none(number):
+    return number, varint(number << 3) + varint(0)
+
+
+def in_order(added, content):
+    """The fields with those added, by number."""
+    known = [(number, text) for number, _, text in fields(content)]
+    return b"".join(text for _, text in sorted(known + added, key=lambda field: field[0]))
+
+
+def with_code(content):
+    """A span whose status has a code of 0 written, where it had no status."""
+    has = any(number == 15 for number, _, _ in fields(content))
+    return content if has else in_order([(15, piece(15, number_of_none(3)[1]))], content)
+
+
+def with_counts(content):
+    """A span whose events and links have a count of 0 written."""
+    counts = {11: number_of_none(4), 13: number_of_none(5)}
+    return b"".join(piece(number, in_order([counts[number]], text)) if number in counts else spelled
+                    for number, text, spelled in fields(content))
+
+
+def with_all(content):
+    """A span with both, and with three counts of 0 of its own."""
+    return in_order([number_of_none(number) for number in (10, 12, 14)], with_code(with_counts(content)))
+
+
+def flags_before_name(content):
+    def place(field):
+        return 4.5 if field[0] == 16 else field[0]
+
+    return b"".join(text for _, _, text in sorted(fields(content), key=place))
 
 
 def some(size, make):
@@ -156,6 +198,9 @@ def ordered(order):
 def main():
     stored, folder = pathlib.Path(sys.argv[1]).read_bytes(), pathlib.Path(sys.argv[2])
     bodies = {"request": stored, "tenth": anew(stored, 10), "anew": anew(stored, 1)}
+    bodies |= {"code": changed(stored, with_code), "counts": changed(stored, with_counts),
+               "written": changed(stored, with_all)}
+    bodies["late"] = changed(bodies["written"], flags_before_name)
     for size in (65536, 524288, 4194304):
         bodies[f"one{size}"] = one(size)
         bodies[f"scopes{size}"] = scopes(size)

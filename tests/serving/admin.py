@@ -26,8 +26,17 @@ OF_SERVICE = {"gauge": ("nimchaes_build_info", "nimchaes_tenants", "nimchaes_dra
                           "nimchaes_retries_total", "nimchaes_back_end_answers_total")}
 METRICS = {"accepted": "otelcol_receiver_accepted_spans_total", "exported": "otelcol_exporter_sent_spans_total",
            "queue_full": "otelcol_exporter_enqueue_failed_spans_total"}
-# The Collector's tail sampling processor has this gauge of the traces that it has in memory.
-ROWS = "otelcol_processor_tail_sampling_sampling_traces_on_memory"
+# Gauges of how full a tenant is, by their words in JSON. The Collector's tail sampling processor has the first of the
+# traces that it has in memory, and its exporters have the last two of the batches in their queues.
+USAGE = {"rows": "otelcol_processor_tail_sampling_sampling_traces_on_memory",
+         "undecided_rows": "nimchaes_undecided_traces", "rows_limit": "nimchaes_traces_limit",
+         "spans_limit": "nimchaes_spans_limit",
+         "queued_batches": "otelcol_exporter_queue_size", "queued_batches_limit": "otelcol_exporter_queue_capacity"}
+# What is there of a tenant without spans whose settings have the defaults, and what may be there (docs/SETTINGS.md).
+EMPTY = {"rows": 0, "undecided_rows": 0, "rows_limit": 50_000, "spans_limit": 100_000, "queued_batches": 0,
+         "queued_batches_limit": 1000}
+# A tenant that has gone.
+GONE = dict.fromkeys(USAGE, 0)
 # What is told where spans come in (docs/HTTP.md), and what all else is counted under.
 STATUSES = ("200", "400", "403", "404", "405", "413", "415", "429", "431", "503", "other")
 JSON = "application/json"
@@ -109,9 +118,9 @@ class LookedAfter(Service):
         return self.run.wait(), out, self.run.stderr.read()
 
 
-def figures(name, **counts):
-    """What JSON tells of a tenant without rows of which nothing waits."""
-    return {"tenant": name, **{word: counts.get(word, 0) for word in NAMES}, "rows": 0, "ready_at_ms": None}
+def figures(name, usage=EMPTY, **counts):
+    """What JSON tells of a tenant that is so full, of which nothing waits."""
+    return {"tenant": name, **{word: counts.get(word, 0) for word in NAMES}, **usage, "ready_at_ms": None}
 
 
 def looked_at(folder):
@@ -163,14 +172,18 @@ def check_moments(service, family):
     check("of it alone", service.told("/tenants/e")[1]["ready_at_ms"], round(moment * 1000))
 
 
-def check_rows(service, family, wanted):
-    """Each trace of a tenant is a row, also after its decision; by JSON too."""
-    check("rows are", family.kind, "gauge")
-    check("rows have help", bool(family.help), True)
-    check("rows", family.samples, {(("tenant", name),): float(rows) for name, rows in wanted.items()})
-    check("rows in JSON", {row["tenant"]: row["rows"] for row in service.told("/tenants")[1]["tenants"]}, wanted)
-    for name, rows in wanted.items():
-        check(f"rows of {name} alone", service.told(f"/tenants/{name}")[1]["rows"], rows)
+def check_usage(service, found, wanted):
+    """How full these tenants are, in families of their own, which are taken out; by JSON too."""
+    for word, metric in USAGE.items():
+        family = found.pop(metric)
+        check(f"type of {metric}", family.kind, "gauge")
+        check(f"{metric} has help", bool(family.help), True)
+        check(metric, family.samples, {(("tenant", name),): float(usage[word]) for name, usage in wanted.items()})
+    check("usage in JSON", {row["tenant"]: {word: row[word] for word in USAGE}
+                            for row in service.told("/tenants")[1]["tenants"]}, wanted)
+    for name, usage in wanted.items():
+        told = service.told(f"/tenants/{name}")[1]
+        check(f"usage of {name} alone", {word: told[word] for word in USAGE}, usage)
 
 
 def scraped(folder):
@@ -190,7 +203,7 @@ def scraped(folder):
             check(f"{metric} has help", bool(family.help), True)
             check(metric, family.samples, {(("tenant", name),): float(counts.get(word, 0))
                                            for name, counts in wanted.items()})
-        check_rows(service, found.pop(ROWS), {"a.b-c_D": 3, "e": 2})
+        check_usage(service, found, {"a.b-c_D": EMPTY | {"rows": 3}, "e": EMPTY | {"rows": 2, "undecided_rows": 2}})
         check_moments(service, found.pop("nimchaes_ready_uptime_seconds"))
         check("of the service", {name: family.kind for name, family in found.items()},
               {name: kind for kind, names in OF_SERVICE.items() for name in names})
@@ -199,6 +212,45 @@ def scraped(folder):
         check("not draining", found["nimchaes_draining"].samples, {(): 0.0})
         check("what runs", found["nimchaes_build_info"].samples, {(("version", "0.1.0"),): 1.0})
         service.drained()
+
+
+def filled(folder):
+    """A queue is full, rows are, and the budget of spans is, before the next batch, trace or span is lost."""
+    few = tenant("rows", BackEnd(), wait=86_400_000).replace("decision_wait_ms", "num_traces = 2\ndecision_wait_ms")
+    with BackEnd(None) as held, BackEnd(BUSY) as busy, LookedAfter(
+            folder, [tenant("queue", held, queue=2), tenant("again", busy, queue=2, retry=200_000), few,
+                     tenant("spans", held, wait=86_400_000, most=3)], senders=4) as service:
+        def told(name, *words):
+            row = service.told(f"/tenants/{name}")[1]
+            return tuple(row[word] for word in words)
+
+        def post(name, number, status=200):
+            check(f"post {number} of {name}", service.post(name, body(number, number))[0], status)
+
+        # Each trace is a batch: the first is on its way, two wait, and a further one is dropped.
+        queue = ("accepted", "active", "queued_batches", "queued_batches_limit", "queue_full")
+        for number, wanted in enumerate(((1, 1, 0, 2, 0), (2, 1, 1, 2, 0), (3, 1, 2, 2, 0), (4, 1, 2, 2, 1)), 1):
+            post("queue", number)
+            wait_for(lambda: told("queue", "undecided", "pending") == (0, 0), "it is decided")
+            wait_for(lambda: told("queue", *queue) == wanted, f"{number} in a queue")
+        # A batch that waits to be sent again has a consumer, and is none that the queue has.
+        post("again", 1)
+        wait_for(lambda: busy.posts and told("again", "ready_at_ms")[0], "it is to be sent again")
+        check("none in the queue", told("again", *queue), (1, 1, 0, 2, 0))
+        post("again", 2)
+        wait_for(lambda: told("again", *queue) == (2, 1, 1, 2, 0), "the next one waits")
+        rows = ("rows", "undecided_rows", "rows_limit", "too_early")
+        for number, wanted in enumerate(((1, 1, 2, 0), (2, 2, 2, 0), (2, 2, 2, 1)), 1):
+            post("rows", number)
+            check(f"{number} traces", told("rows", *rows), wanted)
+        spans = ("undecided", "pending", "spans_limit", "over_budget")
+        for number, (status, *wanted) in enumerate(((200, 1, 0, 3, 0), (200, 2, 0, 3, 0), (200, 3, 0, 3, 0),
+                                                    (429, 3, 0, 3, 0)), 1):
+            post("spans", number, status)
+            check(f"{number} spans", told("spans", *spans), tuple(wanted))
+        for name, size in (("queue", 2.0), ("again", 1.0)):
+            check(f"{name} by metrics", [service.metric(f"otelcol_exporter_queue_{what}", tenant=name)
+                                         for what in ("size", "capacity")], [size, 2.0])
 
 
 def in_force(folder):
@@ -217,7 +269,7 @@ values = ["x"]
         check("its endpoint", service.told("/tenants/a")[1]["settings"]["endpoint"], f"127.0.0.1:{back_end.port}")
         check("it comes", service.told("/tenants", "POST", document.encode())[0], 201)
         service.hear()
-        check("all of it", service.told("/tenants/new"), (200, figures("new") | {"settings": {
+        check("all of it", service.told("/tenants/new"), (200, figures("new", EMPTY | {"spans_limit": 7}) | {"settings": {
             "endpoint": "127.0.0.1:4319", "max_spans": 7, "seed": 0,
             "tail_sampling": {"decision_wait_ms": 30000, "num_traces": 50000,
                               "decision_cache": {"sampled_cache_size": 0, "non_sampled_cache_size": 0},
@@ -335,7 +387,9 @@ def with_token(folder):
             LookedAfter(folder, [tenant("a", back_end)], "--admin-token-file", str(file)) as service:
         wrong = ("", f"Authorization: Bearer {TOKEN}x\r\n", f"Authorization: Bearer {TOKEN[:-1]}\r\n",
                  f"Authorization: Basic {TOKEN}\r\n", "Authorization: Bearer \r\n", "Authorization: \r\n",
-                 f"Authorization: Bearer {TOKEN[:-1]}M\r\n", f"Authorization: Bearer {TOKEN}\r\n" * 2)
+                 f"Authorization: Bearer {TOKEN[:-1]}M\r\n", f"Authorization: Bearer {TOKEN}\r\n" * 2,
+                 f"Authorization: Bearer{TOKEN}\r\n", f"Authorization: Bearer\t{TOKEN}\r\n",
+                 f"Authorization: Bearer \t{TOKEN}\r\n", f"Authorization: Bearer  {TOKEN} x\r\n", "Authorization: Bearer   \r\n")
         for more in wrong:
             for target, method in (("/metrics", "GET"), ("/tenants", "GET"), ("/tenants/a", "DELETE"),
                                    ("/drain", "POST"), ("/tenants", "POST"), ("/nothing", "GET"),
@@ -346,7 +400,7 @@ def with_token(folder):
                       (401, "Bearer", JSON, b'{"error":"the token is missing or another"}'))
         for target in ("/", "/healthz", "/readyz"):
             check(f"{target} without", service.ask(target)[0], 200)
-        for scheme in ("Bearer", "bearer", "BEARER"):
+        for scheme in ("Bearer ", "bearer   ", "Bearer", "bearer", "BEARER"):
             right = f"Authorization: {scheme} {TOKEN}\r\n"
             check("with it", service.told("/tenants", more=right), (200, {"tenants": [figures("a")]}))
         check("a drain", service.ask("/drain", "POST", more=right)[0], 200)
@@ -469,7 +523,7 @@ def asked_in(folder):
         check("two of them", service.told("/tenants", "POST", two.encode())[0], 422)
         service.hear()
         wait_for(lambda: service.told("/tenants/new")[1]["exported"] == 1, "it is sent")
-        check("it goes", service.told("/tenants/new", "DELETE"), (200, figures("new", accepted=1, exported=1)))
+        check("it goes", service.told("/tenants/new", "DELETE"), (200, figures("new", GONE, accepted=1, exported=1)))
         check("that is printed", service.hear(), line_of("new", accepted=1, exported=1))
         check("it has gone", service.told("/tenants/new", "DELETE"), (404, {"error": "unknown tenant"}))
         check("nobody", service.told("/tenants"), (200, {"tenants": [figures("a")]}))
@@ -502,7 +556,7 @@ def warned(folder):
         check("two of them", service.told("/tenants", "POST", plain + tenant("b", back_end).encode()),
               (422, {"error": "the document doesn't have exactly one tenant"}))
         for name in ("plain", "slips", "mark"):
-            check("it goes", service.told(f"/tenants/{name}", "DELETE"), (200, figures(name)))
+            check("it goes", service.told(f"/tenants/{name}", "DELETE"), (200, figures(name, GONE)))
         check("the end", service.drained()[0], 0)
 
 
@@ -709,7 +763,7 @@ def scraped_often(folder):
         check("the end", service.drained()[0], 0)
 
 
-TESTS = (looked_at, scraped, in_force, counted, each_status, with_token, without_token, no_page_changes_anything, with_each_token,
+TESTS = (looked_at, scraped, filled, in_force, counted, each_status, with_token, without_token, no_page_changes_anything, with_each_token,
          in_bytes, asked_in, warned, asked_out_late, drained_beside_one_that_goes,
          drained_by_call, slow_lookers, asked_to_the_end, without_input, few_files)
 BY_HAND = (scraped_often,)

@@ -2,9 +2,10 @@
 
 import re
 import resource
+from itertools import count
 from pathlib import Path
 
-from replay.make_script import piece
+from replay.make_script import number_field, piece
 from serving.talk import ERRORS, BackEnd, Service, body, check, in_threads, tenant, wait_for
 
 # Each of these spans has a resource of its own, so that a body takes many times its bytes while it is made ready, and more
@@ -33,8 +34,13 @@ def in_scope(text):
     return piece(1, piece(2, text))
 
 
-# What a body has again and again, what stands round it, and how many times its bytes the body takes at most while it is
-# made ready, of which it is one itself.
+def of_another_resource(number):
+    """A resource spans of a span, whose resource is that of no other number: so many attributes were left out."""
+    return piece(1, piece(1, number_field(2, number)) + piece(2, SPAN))
+
+
+# What a body has again and again, or what makes it of each number from 1 on; what stands round it; and how many times its
+# bytes the body takes at most while it is made ready, of which it is one itself.
 SHAPES = {
     "empty resource spans": (piece(1, b""), alone, 4),
     "resource spans of an empty scope spans": (piece(1, piece(2, b"")), alone, 4),
@@ -48,7 +54,18 @@ SHAPES = {
     "the same, with a scope and a schema": (piece(2, EMPTY + SPAN + URL), in_resource, 8),
     "spans": (SPAN, in_scope, 8),
     "spans that are written anew": (piece(2, IDS + piece(3, b"")), in_scope, 8),
+    "resource spans of a span, each of another resource": (of_another_resource, alone, 8),
 }
+
+
+def body_of(again):
+    """So many of them as a body has."""
+    if isinstance(again, bytes):
+        return again * (BODY // len(again))
+    made, numbers = bytearray(), count(1)
+    while len(made) < BODY:
+        made += again(next(numbers))
+    return bytes(made)
 
 
 def bytes_of(process, name):
@@ -120,7 +137,7 @@ def most_while_made_ready(folder):
     """What a body takes while it is made ready is bounded by its bytes, whatever it is made of."""
     with BackEnd() as back_end:
         for shape, (again, round_it, most) in SHAPES.items():
-            times, status = times_its_bytes(folder, back_end, round_it(again * (BODY // len(again))))
+            times, status = times_its_bytes(folder, back_end, round_it(body_of(again)))
             check(f"{shape}: {times:.1f} times its bytes, at most {most}", times <= most, True)
             check(f"{shape}: answered", status in (200, 429), True)
 

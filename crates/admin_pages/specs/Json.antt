@@ -2,7 +2,11 @@
 use Rattle.std.specs.Prelude.{ℕ, ◌==◌, ◌+◌, ◌/◌, ◌%◌, nat_lt, List, [], ◌∷◌, ◌++◌, flat_map, Option, Some, None, if◌then◌else◌, codes, decimal}
 use Rattle.admin_pages.specs.Counter.{all_counters, value_of, word_of}
 use Rattle.admin_pages.specs.Figures.{TenantData}
+use Rattle.admin_pages.specs.Gauge.{all_gauges, level_of}
+use Rattle.admin_pages.specs.Gauge as gauges
 use Rattle.admin_pages.specs.declared.counter.SpanCounter.{SpanCounter}
+use Rattle.admin_pages.specs.declared.figures.TenantUsage.{TenantUsage}
+use Rattle.admin_pages.specs.declared.gauge.TenantGauge.{TenantGauge}
 
 -- a hexadecimal digit, in lower case
 abbrev pub hex_digit : ℕ → ℕ
@@ -31,21 +35,26 @@ unfoldable pub counters_text : TenantData → List SpanCounter → List ℕ
 counters_text tenant [] = []
 counters_text tenant (counter ∷ counters) = counter_text tenant counter ++ counters_text tenant counters
 
--- how many rows are present, a member behind another one
-abbrev pub rows_text : ℕ → List ℕ
-rows_text rows = codes ",\"rows\":" ++ decimal rows
+-- a gauge of a tenant, a member of an object behind another one
+unfoldable pub level_text : TenantUsage → TenantGauge → List ℕ
+level_text usage gauge = codes ",\"" ++ gauges.word_of gauge ++ codes "\":" ++ decimal (level_of gauge usage)
+
+-- these gauges
+unfoldable pub levels_text : TenantUsage → List TenantGauge → List ℕ
+levels_text usage [] = []
+levels_text usage (gauge ∷ rest) = level_text usage gauge ++ levels_text usage rest
 
 -- a moment in milliseconds, or that there is none
 abbrev pub moment_text : Option ℕ → List ℕ
 moment_text (Some moment) = decimal moment
 moment_text None = codes "null"
 
--- a tenant's figures, without the end of their object: its name, its counters under the words of a report, how many
--- rows are present, and when something of it is due next, in milliseconds since the start
+-- a tenant's figures, without the end of their object: its name, its counters under the words of a report, how full it
+-- is, and when something of it is due next, in milliseconds since the start
 unfoldable pub figures_text : TenantData → List ℕ
 figures_text tenant =
     codes "{\"tenant\":" ++ string_text tenant.name ++ counters_text tenant all_counters
-    ++ rows_text tenant.rows ++ codes ",\"ready_at_ms\":" ++ moment_text tenant.ready
+    ++ levels_text tenant.usage all_gauges ++ codes ",\"ready_at_ms\":" ++ moment_text tenant.ready
 
 -- a tenant's figures, as an object
 unfoldable pub tenant_text : TenantData → List ℕ

@@ -1,5 +1,6 @@
 pub mod Counter
 pub mod Figures
+pub mod Gauge
 pub mod Json
 pub mod Metrics
 pub mod Report

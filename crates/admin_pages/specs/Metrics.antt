@@ -2,9 +2,12 @@
 use Rattle.std.specs.Prelude.{ℕ, ◌==◌, ◌/◌, ◌%◌, List, [], ◌∷◌, ◌++◌, flat_map, Option, Some, None, if◌then◌else◌, codes, decimal}
 use Rattle.admin_pages.specs.Counter.{all_counters, value_of, metric_of, help_of, kind_of, kind_word}
 use Rattle.admin_pages.specs.Figures.{TenantData}
+use Rattle.admin_pages.specs.Gauge.{all_gauges, level_of}
+use Rattle.admin_pages.specs.Gauge as gauges
 use Rattle.admin_pages.specs.declared.counter.MetricKind.{MetricKind}
 use Rattle.admin_pages.specs.declared.counter.MetricKind.TheVariants.{Gauge}
 use Rattle.admin_pages.specs.declared.counter.SpanCounter.{SpanCounter}
+use Rattle.admin_pages.specs.declared.gauge.TenantGauge.{TenantGauge}
 use Rattle.admin_pages.specs.declared.metrics.Sample.{Sample}
 
 -- a byte of a label's value: the backslash, the double quote and the line feed stand behind a backslash
@@ -67,21 +70,22 @@ abbrev pub families_text : List TenantData → List SpanCounter → List ℕ
 families_text tenants [] = []
 families_text tenants (counter ∷ counters) = family_text tenants counter ++ families_text tenants counters
 
--- the metric of how many rows of a tenant are present, named as the Collector's tailsamplingprocessor names it
-abbrev pub rows_metric : List ℕ
-rows_metric = codes "otelcol_processor_tail_sampling_sampling_traces_on_memory"
+-- one gauge of these tenants, each under its name
+abbrev pub levels_text : TenantGauge → List TenantData → List ℕ
+levels_text gauge [] = []
+levels_text gauge (tenant ∷ tenants) =
+    labelled_text (gauges.metric_of gauge) (codes "tenant") tenant.name (decimal (level_of gauge tenant.usage))
+    ++ levels_text gauge tenants
 
--- how many there are of these tenants, each under its name
-abbrev pub rows_samples : List TenantData → List ℕ
-rows_samples [] = []
-rows_samples (tenant ∷ tenants) =
-    labelled_text rows_metric (codes "tenant") tenant.name (decimal tenant.rows) ++ rows_samples tenants
+-- the family of one gauge
+abbrev pub gauge_text : List TenantData → TenantGauge → List ℕ
+gauge_text tenants gauge =
+    head_text (gauges.metric_of gauge) (gauges.help_of gauge) Gauge ++ levels_text gauge tenants
 
--- the family of how many rows of these tenants are present
-abbrev pub rows_text : List TenantData → List ℕ
-rows_text tenants =
-    head_text rows_metric (codes "Traces that are present, undecided ones and decided ones") Gauge
-    ++ rows_samples tenants
+-- the families of these gauges
+abbrev pub gauges_text : List TenantData → List TenantGauge → List ℕ
+gauges_text tenants [] = []
+gauges_text tenants (gauge ∷ rest) = gauge_text tenants gauge ++ gauges_text tenants rest
 
 -- milliseconds as seconds, the base unit of time, with three digits behind the point
 abbrev pub seconds_text : ℕ → List ℕ
@@ -109,6 +113,6 @@ ready_text tenants =
     head_text ready_metric (codes "Seconds after the start at which something of the tenant is due next") Gauge
     ++ ready_samples tenants
 
--- all counters of all tenants, how many rows of them are present, and when something of them is due
+-- all counters of all tenants, how full they are, and when something of them is due
 abbrev pub tenants_text : List TenantData → List ℕ
-tenants_text tenants = families_text tenants all_counters ++ rows_text tenants ++ ready_text tenants
+tenants_text tenants = families_text tenants all_counters ++ gauges_text tenants all_gauges ++ ready_text tenants

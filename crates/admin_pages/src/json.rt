@@ -2,10 +2,11 @@
 
 ghost use Rattle.std.specs.Prelude.{◌≡◌, ◌++◌, ◌<◌, map, flat_map, OnOk};
 ghost use Rattle.admin_pages.specs.Figures.{tenant_of};
-ghost use Rattle.admin_pages.specs.Json.{hex_digit, string_byte, string_text, counter_text, counters_text, rows_text, moment_text, figures_text, tenant_text, further_text, array_text, tenants_text};
+ghost use Rattle.admin_pages.specs.Json.{hex_digit, string_byte, string_text, counter_text, counters_text, level_text, levels_text, moment_text, figures_text, tenant_text, further_text, array_text, tenants_text};
 
 use crate::counter::SpanCounter;
-use crate::figures::TenantFigures;
+use crate::figures::{TenantFigures, TenantUsage};
+use crate::gauge::TenantGauge;
 use std::alloc::{AllocError, Global};
 
 /// Appends an object with all tenants.
@@ -47,16 +48,41 @@ pub(crate) fn put_figures(
     out.extend_from_slice(b"{\"tenant\":")?;
     put_string(out, tenant.name.as_str())?;
     put_counters(alloc, out, tenant, &SpanCounter::all())?;
-    put_rows(alloc, out, tenant.rows)?;
+    put_levels(alloc, out, &tenant.usage, &TenantGauge::all())?;
     out.extend_from_slice(b",\"ready_at_ms\":")?;
     put_moment(alloc, out, tenant.ready)
 }
 
-/// Appends how many rows a tenant has, as a member.
-fn put_rows(alloc: Global, out: &mut Vec<u8>, rows: u64) -> Result<(), AllocError>
-    ensures { OnOk result (out.new.items ≡ out.old.items ++ rows_text rows) }
+/// Appends these gauges of a tenant that is so full, as members.
+#[tactic(auto, unfolding(crate::specs::Json::levels_text))]
+fn put_levels(
+    alloc: Global,
+    out: &mut Vec<u8>,
+    usage: &TenantUsage,
+    mut gauges: &[TenantGauge],
+) -> Result<(), AllocError>
+    ensures { OnOk result (out.new.items
+        ≡ out.old.items ++ levels_text usage.now gauges.entry.now) }
 {
-    let member = format!(in alloc; ",\"rows\":{rows}")?;
+    while let [first, rest @ ..] = gauges {
+        put_level(alloc, out, usage, *first)?;
+        gauges = rest;
+    }
+    Ok(())
+}
+
+/// Appends a gauge of a tenant that is so full, as a member.
+#[tactic(auto, unfolding(crate::specs::Json::level_text))]
+fn put_level(
+    alloc: Global,
+    out: &mut Vec<u8>,
+    usage: &TenantUsage,
+    gauge: TenantGauge,
+) -> Result<(), AllocError>
+    ensures { OnOk result (out.new.items ≡ out.old.items ++ level_text usage.now gauge) }
+{
+    let (word, value) = (gauge.word(), gauge.value(usage));
+    let member = format!(in alloc; ",\"{word}\":{value}")?;
     out.extend_from_slice(member.as_bytes())
 }
 

@@ -3,6 +3,7 @@
 
 mod counter;
 mod figures;
+mod gauge;
 mod json;
 mod metrics;
 mod report;
@@ -13,7 +14,8 @@ mod status;
 mod token;
 
 pub use crate::counter::{MetricKind, SpanCounter};
-pub use crate::figures::TenantFigures;
+pub use crate::figures::{TenantFigures, TenantUsage};
+pub use crate::gauge::TenantGauge;
 pub use crate::json::{put_string, put_tenant, put_tenants};
 pub use crate::metrics::{Sample, put_measure, put_measures, put_tenant_metrics};
 pub use crate::report::read_report;

@@ -2,20 +2,18 @@
 
 ghost use Rattle.std.specs.Prelude.{◌≡◌, ◌++◌, map, decimal, string_bytes, IfOk, OnOk};
 ghost use Rattle.admin_pages.specs.Figures.{tenant_of};
-ghost use Rattle.admin_pages.specs.Metrics.{label_byte, label_text, head_text, sample_text, labelled_text, measure_text, sample_of, labels_text, measures_text, samples_text, family_text, families_text, rows_metric, rows_samples, rows_text, seconds_text, ready_metric, ready_sample, ready_samples, ready_text, tenants_text};
+ghost use Rattle.admin_pages.specs.Metrics.{label_byte, label_text, head_text, sample_text, labelled_text, measure_text, sample_of, labels_text, measures_text, samples_text, family_text, families_text, levels_text, gauge_text, gauges_text, seconds_text, ready_metric, ready_sample, ready_samples, ready_text, tenants_text};
 
 use crate::counter::{MetricKind, SpanCounter};
 use crate::figures::TenantFigures;
+use crate::gauge::TenantGauge;
 use std::alloc::{AllocError, Global};
-
-/// The metric of how many rows of a tenant are present, as the Collector names it.
-const ROWS: &str = "otelcol_processor_tail_sampling_sampling_traces_on_memory";
 
 /// The metric of when something of a tenant is due.
 const READY: &str = "nimchaes_ready_uptime_seconds";
 
-/// Appends the families of all counters, with a sample for each tenant under its name, behind them that of how many
-/// rows the tenants have, and that of when something of them is due, with a sample for each of which something waits.
+/// Appends the families of all counters and behind them of all gauges, with a sample for each tenant under its name,
+/// and that of when something of the tenants is due, with a sample for each of which something waits.
 #[tactic(auto, using(crate::proofs::Joined::more))]
 pub fn put_tenant_metrics(
     alloc: Global,
@@ -25,9 +23,8 @@ pub fn put_tenant_metrics(
     ensures { OnOk result (out.new.items ≡ out.old.items ++ tenants_text
         (map tenant_of tenants.now)) }
 {
-    let counters = SpanCounter::all();
-    put_families(alloc, out, tenants, &counters)?;
-    put_rows(alloc, out, tenants)?;
+    put_families(alloc, out, tenants, &SpanCounter::all())?;
+    put_gauges(alloc, out, tenants, &TenantGauge::all())?;
     put_ready(alloc, out, tenants)
 }
 
@@ -166,27 +163,58 @@ fn put_head(
     out.extend_from_slice(head.as_bytes())
 }
 
-/// Appends the family of how many rows these tenants have.
-#[tactic(auto, using(crate::proofs::Joined::more))]
-fn put_rows(alloc: Global, out: &mut Vec<u8>, tenants: &[TenantFigures]) -> Result<(), AllocError>
-    ensures { OnOk result (out.new.items ≡ out.old.items ++ rows_text (map tenant_of tenants.now)) }
+/// Appends the families of these gauges.
+fn put_gauges(
+    alloc: Global,
+    out: &mut Vec<u8>,
+    tenants: &[TenantFigures],
+    mut gauges: &[TenantGauge],
+) -> Result<(), AllocError>
+    ensures { OnOk result (out.new.items
+        ≡ out.old.items ++ gauges_text (map tenant_of tenants.now) gauges.entry.now) }
 {
-    let help = "Traces that are present, undecided ones and decided ones";
-    put_head(alloc, out, ROWS, help, MetricKind::Gauge)?;
-    put_row_counts(alloc, out, tenants)
+    while let [first, rest @ ..] = gauges {
+        put_gauge(alloc, out, tenants, *first)?;
+        gauges = rest;
+    }
+    Ok(())
 }
 
-/// Appends a sample of each tenant, how many rows it has.
-fn put_row_counts(
+/// Appends the family of a gauge.
+#[tactic(auto, using(crate::proofs::Joined::more))]
+fn put_gauge(
+    alloc: Global,
+    out: &mut Vec<u8>,
+    tenants: &[TenantFigures],
+    gauge: TenantGauge,
+) -> Result<(), AllocError>
+    ensures { OnOk result (out.new.items ≡ out.old.items ++ gauge_text (map tenant_of tenants.now)
+        gauge) }
+{
+    put_head(alloc, out, gauge.metric(), gauge.help(), MetricKind::Gauge)?;
+    put_levels(alloc, out, tenants, gauge)
+}
+
+/// Appends a gauge's sample of each tenant.
+fn put_levels(
     alloc: Global,
     out: &mut Vec<u8>,
     mut tenants: &[TenantFigures],
+    gauge: TenantGauge,
 ) -> Result<(), AllocError>
     ensures { OnOk result (out.new.items
-        ≡ out.old.items ++ rows_samples (map tenant_of tenants.entry.now)) }
+        ≡ out.old.items ++ levels_text gauge (map tenant_of tenants.entry.now)) }
 {
     while let [first, rest @ ..] = tenants {
-        put_figure(alloc, out, ROWS, "tenant", first.name.as_str(), first.rows)?;
+        let value = gauge.value(&first.usage);
+        put_figure(
+            alloc,
+            out,
+            gauge.metric(),
+            "tenant",
+            first.name.as_str(),
+            value,
+        )?;
         tenants = rest;
     }
     Ok(())

@@ -1,25 +1,39 @@
 //! Tenants' figures for tests.
 
-use admin_pages::TenantFigures;
+use admin_pages::{TenantFigures, TenantUsage};
 use std::alloc::{AllocError, Global};
 
 /// A tenant of 77 spans in places of 2 to 12, beside which 13 and 14 were left out.
 pub const EACH: [u64; 14] = [77, 2, 3, 4, 5, 6, 7, 8, 9, 10, 11, 12, 13, 14];
 
-/// A tenant of this name with these counters, without rows, of which nothing waits.
+/// A tenant of this name with these counters that has gone, so that nothing of it is there or waits.
 pub fn tenant(alloc: Global, name: &str, counters: [u64; 14]) -> Result<TenantFigures, AllocError> {
     Ok(TenantFigures {
         name: String::from_str(alloc, name)?,
         counters,
-        rows: 0,
+        usage: TenantUsage::none(),
         ready: None,
     })
 }
 
-/// A tenant of this name without spans that has so many rows.
-pub fn with_rows(alloc: Global, name: &str, rows: u64) -> Result<TenantFigures, AllocError> {
+/// 5 rows of at most 50,000, 4 of them undecided, room for 1,000 spans, and 2 batches in a queue for 3.
+pub const HALF_FULL: TenantUsage = TenantUsage {
+    rows: 5,
+    undecided_rows: 4,
+    rows_limit: 50_000,
+    spans_limit: 1_000,
+    queued_batches: 2,
+    queued_batches_limit: 3,
+};
+
+/// A tenant of this name without spans that is so full.
+pub fn with_usage(
+    alloc: Global,
+    name: &str,
+    usage: TenantUsage,
+) -> Result<TenantFigures, AllocError> {
     Ok(TenantFigures {
-        rows,
+        usage,
         ..tenant(alloc, name, [0; 14])?
     })
 }

@@ -1,8 +1,8 @@
 //! Figures as a scraper and a page read them.
 
-use crate::figures::{EACH, due, tenant, with_rows};
+use crate::figures::{EACH, HALF_FULL, due, tenant, with_usage};
 use admin_pages::{
-    MetricKind, put_measure, put_string, put_tenant, put_tenant_metrics, put_tenants,
+    MetricKind, TenantUsage, put_measure, put_string, put_tenant, put_tenant_metrics, put_tenants,
 };
 use std::test::Fail;
 
@@ -23,48 +23,73 @@ otelcol_receiver_accepted_spans_total{tenant=\"b\\\\c\\\"d\\ne\"} 0\n\
 nimchaes_undecided_spans{tenant=\"a\"} 2\n"
         .as_slice();
     assert!(rt; text.starts_with(begins));
-    let ends = b"# TYPE nimchaes_over_budget_spans_total counter\n\
-nimchaes_over_budget_spans_total{tenant=\"a\"} 14\n\
-nimchaes_over_budget_spans_total{tenant=\"b\\\\c\\\"d\\ne\"} 0\n\
-# HELP otelcol_processor_tail_sampling_sampling_traces_on_memory \
-Traces that are present, undecided ones and decided ones\n\
-# TYPE otelcol_processor_tail_sampling_sampling_traces_on_memory gauge\n\
-otelcol_processor_tail_sampling_sampling_traces_on_memory{tenant=\"a\"} 0\n\
-otelcol_processor_tail_sampling_sampling_traces_on_memory{tenant=\"b\\\\c\\\"d\\ne\"} 0\n\
+    let ends = b"# TYPE otelcol_exporter_queue_capacity gauge\n\
+otelcol_exporter_queue_capacity{tenant=\"a\"} 0\n\
+otelcol_exporter_queue_capacity{tenant=\"b\\\\c\\\"d\\ne\"} 0\n\
 # HELP nimchaes_ready_uptime_seconds Seconds after the start at which something of the tenant is due next\n\
 # TYPE nimchaes_ready_uptime_seconds gauge\n"
         .as_slice();
     assert!(rt; text.ends_with(ends));
     assert_eq!(rt;
         text.iter().filter(|byte| **byte == b'\n').count(),
-        15 * 4 + 2
+        20 * 4 + 2
     );
     Ok(())
 }
 
+/// What stands from the last counter of two tenants on, of whom the first is half full.
+const FULLNESS: &str = "\
+nimchaes_over_budget_spans_total{tenant=\"a\"} 0\n\
+nimchaes_over_budget_spans_total{tenant=\"b\\\"\"} 0\n\
+# HELP otelcol_processor_tail_sampling_sampling_traces_on_memory \
+Traces that are present, undecided ones and decided ones\n\
+# TYPE otelcol_processor_tail_sampling_sampling_traces_on_memory gauge\n\
+otelcol_processor_tail_sampling_sampling_traces_on_memory{tenant=\"a\"} 5\n\
+otelcol_processor_tail_sampling_sampling_traces_on_memory{tenant=\"b\\\"\"} 18446744073709551615\n\
+# HELP nimchaes_undecided_traces Traces that wait for their decision\n\
+# TYPE nimchaes_undecided_traces gauge\n\
+nimchaes_undecided_traces{tenant=\"a\"} 4\n\
+nimchaes_undecided_traces{tenant=\"b\\\"\"} 0\n\
+# HELP nimchaes_traces_limit Traces that may be present\n\
+# TYPE nimchaes_traces_limit gauge\n\
+nimchaes_traces_limit{tenant=\"a\"} 50000\n\
+nimchaes_traces_limit{tenant=\"b\\\"\"} 0\n\
+# HELP nimchaes_spans_limit Spans that may wait for a decision or for a batch\n\
+# TYPE nimchaes_spans_limit gauge\n\
+nimchaes_spans_limit{tenant=\"a\"} 1000\n\
+nimchaes_spans_limit{tenant=\"b\\\"\"} 0\n\
+# HELP otelcol_exporter_queue_size Batches that wait to be sent\n\
+# TYPE otelcol_exporter_queue_size gauge\n\
+otelcol_exporter_queue_size{tenant=\"a\"} 2\n\
+otelcol_exporter_queue_size{tenant=\"b\\\"\"} 0\n\
+# HELP otelcol_exporter_queue_capacity Batches that may wait to be sent\n\
+# TYPE otelcol_exporter_queue_capacity gauge\n\
+otelcol_exporter_queue_capacity{tenant=\"a\"} 3\n\
+otelcol_exporter_queue_capacity{tenant=\"b\\\"\"} 0\n\
+# HELP nimchaes_ready_uptime_seconds Seconds after the start at which something of the tenant is due next\n\
+# TYPE nimchaes_ready_uptime_seconds gauge\n";
+
 #[test]
-fn each_tenant_has_a_number_of_rows(rt: HostRuntime) -> Result<(), Fail> {
+fn each_tenant_has_each_gauge(rt: HostRuntime) -> Result<(), Fail> {
     let alloc = rt.alloc();
+    let many = TenantUsage {
+        rows: u64::MAX,
+        ..TenantUsage::none()
+    };
     let tenants = [
-        with_rows(alloc, "a", 7)?,
-        with_rows(alloc, "b\"", 50_000)?,
-        with_rows(alloc, "c", u64::MAX)?,
+        with_usage(alloc, "a", HALF_FULL)?,
+        with_usage(alloc, "b\"", many)?,
     ];
     let mut text = Vec::new(alloc);
     put_tenant_metrics(alloc, &mut text, &tenants)?;
-    let ends = b"# TYPE otelcol_processor_tail_sampling_sampling_traces_on_memory gauge\n\
-otelcol_processor_tail_sampling_sampling_traces_on_memory{tenant=\"a\"} 7\n\
-otelcol_processor_tail_sampling_sampling_traces_on_memory{tenant=\"b\\\"\"} 50000\n\
-otelcol_processor_tail_sampling_sampling_traces_on_memory{tenant=\"c\"} 18446744073709551615\n\
-# HELP nimchaes_ready_uptime_seconds Seconds after the start at which something of the tenant is due next\n\
-# TYPE nimchaes_ready_uptime_seconds gauge\n"
-        .as_slice();
-    assert!(rt; text.ends_with(ends));
+    assert!(rt; text.ends_with(FULLNESS.as_bytes()));
     let mut text = Vec::new(alloc);
-    put_tenant(alloc, &mut text, &with_rows(alloc, "a", 50_000)?)?;
-    assert!(rt;
-        text.ends_with(b",\"over_budget\":0,\"rows\":50000,\"ready_at_ms\":null}".as_slice())
-    );
+    put_tenant(alloc, &mut text, &with_usage(alloc, "a", HALF_FULL)?)?;
+    let ends =
+        b",\"over_budget\":0,\"rows\":5,\"undecided_rows\":4,\"rows_limit\":50000,\"spans_limit\":1000,\
+\"queued_batches\":2,\"queued_batches_limit\":3,\"ready_at_ms\":null}"
+            .as_slice();
+    assert!(rt; text.ends_with(ends));
     Ok(())
 }
 
@@ -120,7 +145,8 @@ nimchaes_lane_jobs 3\n"
 const EACH_MEMBERS: &str =
     ",\"accepted\":77,\"undecided\":2,\"pending\":3,\"queued\":4,\"active\":5,\"exported\":6,\
 \"not_sampled\":7,\"too_early\":8,\"queue_full\":9,\"retry_exhausted\":10,\"back_end_refused\":11,\
-\"back_end_rejected\":12,\"invalid\":13,\"over_budget\":14,\"rows\":0,\"ready_at_ms\":null}";
+\"back_end_rejected\":12,\"invalid\":13,\"over_budget\":14,\"rows\":0,\"undecided_rows\":0,\
+\"rows_limit\":0,\"spans_limit\":0,\"queued_batches\":0,\"queued_batches_limit\":0,\"ready_at_ms\":null}";
 
 #[test]
 fn a_tenant_is_an_object(rt: HostRuntime) -> Result<(), Fail> {
@@ -135,14 +161,11 @@ fn a_tenant_is_an_object(rt: HostRuntime) -> Result<(), Fail> {
 #[test]
 fn who_waits_has_a_moment_in_milliseconds(rt: HostRuntime) -> Result<(), Fail> {
     for (moment, ends) in [
-        (0, ",\"over_budget\":0,\"rows\":0,\"ready_at_ms\":0}"),
-        (
-            61_005,
-            ",\"over_budget\":0,\"rows\":0,\"ready_at_ms\":61005}",
-        ),
+        (0, ",\"queued_batches_limit\":0,\"ready_at_ms\":0}"),
+        (61_005, ",\"queued_batches_limit\":0,\"ready_at_ms\":61005}"),
         (
             u64::MAX,
-            ",\"over_budget\":0,\"rows\":0,\"ready_at_ms\":18446744073709551615}",
+            ",\"queued_batches_limit\":0,\"ready_at_ms\":18446744073709551615}",
         ),
     ] {
         let mut text = Vec::new(rt.alloc());

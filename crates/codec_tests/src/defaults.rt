@@ -21,19 +21,60 @@ all_defaults \
 # A length and a tag that are longer than need be.\n\
 in_more_bytes 0a01312280002a016e 0a01312a016e\n\
 a_tag_in_more_bytes 0a0131a200002a016e 0a01312a016e\n\
+# In a status, an event or a link.\n\
+a_status_of_none 22007a021800 7a00\n\
+only_a_status_of_none 7a021800 7a00\n\
+a_status_of_no_message 7a0412001802 7a021802\n\
+a_status_of_nothing 7a0412001800 7a00\n\
+a_status_with_a_message 7a0512016d1800 7a0312016d\n\
+a_message_behind_a_code_of_none 7a05180012016d 7a0312016d\n\
+an_event_that_lost_nothing 5a051201652000 5a03120165\n\
+an_event_of_nothing 5a0d09000000000000000012002000 5a00\n\
+an_event_at_no_time 5a0c09000000000000000012016e 5a0312016e\n\
+an_event_of_no_name 5a1209010000000000000012001a030a016b2000 5a0e0901000000000000001a030a016b\n\
+one_of_three_events 5a031201665a0512016520005a03120167 5a031201665a031201655a03120167\n\
+a_link_of_no_flags 6a0a0a013128003500000000 6a030a0131\n\
+a_link_of_no_state 6a080a01311201321a00 6a060a0131120132\n\
+a_link_of_nothing 6a0d0a0012001a0028003500000000 6a00\n\
+two_links 6a050a013128006a051201322800 6a030a01316a03120132\n\
+a_field_that_is_not_known_in_an_event 5a081201652000a00601 5a06120165a00601\n\
+a_field_of_another_type_in_a_status 7a0410031800 7a021003\n\
+# An event of 128 bytes, and of 126.\n\
+a_length_of_fewer_bytes \
+5a8001127c6e6e6e6e6e6e6e6e6e6e6e6e6e6e6e6e6e6e6e6e6e6e6e6e6e6e6e6e6e6e6e6e6e6e6e6e6e6e6e6e6e6e6e6e6e6e6e6e6e6e\
+6e6e6e6e6e6e6e6e6e6e6e6e6e6e6e6e6e6e6e6e6e6e6e6e6e6e6e6e6e6e6e6e6e6e6e6e6e6e6e6e6e6e6e6e6e6e6e6e6e6e6e6e6e6e6e\
+6e6e6e6e6e6e6e6e6e6e6e6e6e6e6e6e6e6e6e2000 \
+5a7e127c6e6e6e6e6e6e6e6e6e6e6e6e6e6e6e6e6e6e6e6e6e6e6e6e6e6e6e6e6e6e6e6e6e6e6e6e6e6e6e6e6e6e6e6e6e6e6e6e6e6e6e\
+6e6e6e6e6e6e6e6e6e6e6e6e6e6e6e6e6e6e6e6e6e6e6e6e6e6e6e6e6e6e6e6e6e6e6e6e6e6e6e6e6e6e6e6e6e6e6e6e6e6e6e6e6e6e6e\
+6e6e6e6e6e6e6e6e6e6e6e6e6e6e6e6e6e6e\n\
+# As a client writes that sets each field: counts of none, a code of none, no flags.\n\
+each_field_set 0a01311201322a016e30013901000000000000004102000000000000004a030a016b5000\
+5a0e090100000000000000120165200060006a080a0131120132280070007a021800850101000000 \
+0a01311201322a016e30013901000000000000004102000000000000004a030a016b\
+5a0c0901000000000000001201656a060a01311201327a00850101000000\n\
 # What stands behind may have a smaller number.\n\
 before_a_smaller_number 2200120132 120132\n\
 # A default may take back what came before it.\n\
 behind_its_own_field 2201332200 none\n\
 behind_a_greater_number 2a016e2200 none\n\
 twice 22002200 none\n\
+a_code_twice 7a0418021800 none\n\
+an_event_of_two_names 5a051201651200 none\n\
+a_count_behind_a_field_that_is_not_known 5a082000a006012000 none\n\
+a_status_twice 7a0218007a021800 none\n\
+a_status_behind_a_status 7a0218027a021800 none\n\
 behind_a_field_that_is_not_known a006012200 none\n\
 # Without its default the text isn't canonical.\n\
 a_name_twice 22002a016e2a016f none\n\
-a_status_of_none 22007a021800 none\n\
 a_name_that_is_no_text 22002a01ff none\n\
 cut 22002a016e30 none\n\
 flags_cut 220085010000 none\n\
+a_default_in_an_attribute 5a071a030a00122000 none\n\
+a_name_twice_in_an_event 5a081201651201662000 none\n\
+an_event_out_of_order 5a0e120165090100000000000000 none\n\
+an_event_out_of_order_that_lost_nothing 5a101201650901000000000000002000 none\n\
+an_event_cut 5a0412016520 none\n\
+a_status_cut 7a0118 none\n\
 # Field 100 and a parent that is a number aren't known, and stay.\n\
 not_known 22002a016ea00600 2a016ea00600\n\
 of_another_type 1a002000 2000\n\
@@ -63,6 +104,17 @@ fn there_has_to_be_room_for_the_span(rt: HostRuntime) -> Result<(), Fail> {
     // An empty parent, and an attribute whose value is an array: four levels.
     let text = *b"\x22\0\x4a\x04\x12\x02\x2a\0";
     for (room, wanted) in [(0u32, "none"), (3, "none"), (4, "4a0412022a00")] {
+        let found = without_defaults(rt.alloc(), &text, room)?;
+        assert!(rt; is_found(rt.alloc(), found, wanted)?);
+    }
+    Ok(())
+}
+
+#[test]
+fn there_has_to_be_room_for_an_event(rt: HostRuntime) -> Result<(), Fail> {
+    // A count of 0 in an event: two levels.
+    let text = *b"\x5a\x02\x20\0";
+    for (room, wanted) in [(0u32, "none"), (1, "none"), (2, "5a00")] {
         let found = without_defaults(rt.alloc(), &text, room)?;
         assert!(rt; is_found(rt.alloc(), found, wanted)?);
     }

@@ -37,6 +37,10 @@ not_known_before_flags a00600850101000000 850101000000a00600\n\
 a_default 2a016e22000a0131 0a01312a016e\n\
 a_default_in_its_place 2a016e0a01312200 0a01312a016e\n\
 defaults_in_reverse 8501000000007000300022000a0131 0a0131\n\
+a_default_in_a_status 7a0218000a0131 0a01317a00\n\
+a_default_in_an_event 5a0512016520000a0131 0a01315a03120165\n\
+defaults_everywhere 850101000000700060005000300122000a01317a0218005a051201652000 \
+0a013130015a031201657a00850101000000\n\
 # One that stands behind its own field may take it back.\n\
 a_default_behind_its_own_field 2a016e2201332200 none\n\
 a_default_twice 2a016e22002200 none\n\
@@ -47,7 +51,6 @@ a_length_in_more_bytes 2a81006e0a0131 none\n\
 a_tag_in_more_bytes aa00016e0a0131 none\n\
 a_name_that_is_no_text 2a01ff0a0131 none\n\
 a_status_out_of_order 7a05180112016d0a0131 none\n\
-a_default_in_a_status 7a0218000a0131 none\n\
 # These aren't fields.\n\
 cut 2a016e0a013130 none\n\
 flags_cut 2a016e0a01318501000000 none\n\

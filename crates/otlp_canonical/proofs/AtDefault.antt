@@ -32,6 +32,7 @@ all_defaults = record {
   dropped_attributes_count = λ lt. refl;
   dropped_events_count = λ lt. refl;
   dropped_links_count = λ lt. refl;
+  status = λ lt. refl;
   flags = λ lt. refl;
 }
 
@@ -49,17 +50,26 @@ fewer low high s le c = record {
   dropped_attributes_count = λ lt. c.dropped_attributes_count (omega (arith, lt, le));
   dropped_events_count = λ lt. c.dropped_events_count (omega (arith, lt, le));
   dropped_links_count = λ lt. c.dropped_links_count (omega (arith, lt, le));
+  status = λ lt. c.status (omega (arith, lt, le));
   flags = λ lt. c.flags (omega (arith, lt, le));
 }
 
--- what a field makes of a span, where the span knows it
-abbrev pub Leaves : ℕ → Option (Result SpanData ReadFault) → Type 0
-Leaves most made = IfSome made (λ r. IfOk r (DefaultsAbove most))
+-- what a field makes of a message, where the message knows it
+abbrev pub Made : {A : Type 0} → (A → Type 0) → Option (Result A ReadFault) → Type 0
+Made P made = IfSome made (λ r. IfOk r P)
 
 -- a value that is read
-read_leaves : {B : Type 0} (most : ℕ) (r : Result B ReadFault) (put : B → SpanData) → ((x : B) → DefaultsAbove most (put x)) → Leaves most (Some (r >>= λ x. Ok (put x)))
-read_leaves most (Ok x) put leaves = leaves x
-read_leaves most (Err f) put leaves = tt
+pub read_made : {A B : Type 0} (P : A → Type 0) (r : Result B ReadFault) (put : B → A) → ((x : B) → P (put x)) → Made P (Some (r >>= λ x. Ok (put x)))
+read_made P (Ok x) put leaves = leaves x
+read_made P (Err f) put leaves = tt
+
+pub kept_made : {A : Type 0} (P : A → Type 0) (made : Option (Result A ReadFault)) (kept : A) → Made P made → P kept → IfOk (unwrap_or made (Ok kept)) P
+kept_made P None kept leaves c = c
+kept_made P (Some r) kept leaves c = leaves
+
+-- of a span
+abbrev pub Leaves : ℕ → Option (Result SpanData ReadFault) → Type 0
+Leaves most = Made (DefaultsAbove most)
 
 -- a field of a number that isn't above changes nothing above
 known_leaves : (room most : ℕ) (s : SpanData) (n : ℕ) (v : Datum) → n ≤ most → DefaultsAbove most s → Leaves most (span_known room s n v)
@@ -79,27 +89,23 @@ known_leaves room most s n (Four bs) le c =
 known_leaves room most s n (Bytes bs) le c =
     by_test (n == 1) (λ e. rw e (let never : most < 1 → bs ≡ [] = λ lt. absurd (omega (arith, eqb-true n 1 e, lt, le)) in assumption (c, never))) λ e1.
     by_test (n == 2) (λ e. rw (e1, e) (let never : most < 2 → bs ≡ [] = λ lt. absurd (omega (arith, eqb-true n 2 e, lt, le)) in assumption (c, never))) λ e2.
-    by_test (n == 3) (λ e. rw (e1, e2, e) (read_leaves most (utf8 bs) (λ text. record s { trace_state = text }) (λ text. let never : most < 3 → text ≡ [] = λ lt. absurd (omega (arith, eqb-true n 3 e, lt, le)) in assumption (c, never)))) λ e3.
+    by_test (n == 3) (λ e. rw (e1, e2, e) (read_made (DefaultsAbove most) (utf8 bs) (λ text. record s { trace_state = text }) (λ text. let never : most < 3 → text ≡ [] = λ lt. absurd (omega (arith, eqb-true n 3 e, lt, le)) in assumption (c, never)))) λ e3.
     by_test (n == 4) (λ e. rw (e1, e2, e3, e) (let never : most < 4 → bs ≡ [] = λ lt. absurd (omega (arith, eqb-true n 4 e, lt, le)) in assumption (c, never))) λ e4.
-    by_test (n == 5) (λ e. rw (e1, e2, e3, e4, e) (read_leaves most (utf8 bs) (λ text. record s { name = text }) (λ text. let never : most < 5 → text ≡ [] = λ lt. absurd (omega (arith, eqb-true n 5 e, lt, le)) in assumption (c, never)))) λ e5.
-    by_test (n == 9) (λ e. rw (e1, e2, e3, e4, e5, e) (read_leaves most (with_another s.attributes (read_with key_value_step room no_key_value bs)) (λ l. record s { attributes = l }) (λ l. assumption c))) λ e9.
-    by_test (n == 11) (λ e. rw (e1, e2, e3, e4, e5, e9, e) (read_leaves most (with_another s.events (read_with event_step room no_event bs)) (λ l. record s { events = l }) (λ l. assumption c))) λ e11.
-    by_test (n == 13) (λ e. rw (e1, e2, e3, e4, e5, e9, e11, e) (read_leaves most (with_another s.links (read_with link_step room no_link bs)) (λ l. record s { links = l }) (λ l. assumption c))) λ e13.
-    by_test (n == 15) (λ e. rw (e1, e2, e3, e4, e5, e9, e11, e13, e) (read_leaves most (read_with status_step room (unwrap_or s.status no_status) bs) (λ x. record s { status = Some x }) (λ x. assumption c))) λ e15.
+    by_test (n == 5) (λ e. rw (e1, e2, e3, e4, e) (read_made (DefaultsAbove most) (utf8 bs) (λ text. record s { name = text }) (λ text. let never : most < 5 → text ≡ [] = λ lt. absurd (omega (arith, eqb-true n 5 e, lt, le)) in assumption (c, never)))) λ e5.
+    by_test (n == 9) (λ e. rw (e1, e2, e3, e4, e5, e) (read_made (DefaultsAbove most) (with_another s.attributes (read_with key_value_step room no_key_value bs)) (λ l. record s { attributes = l }) (λ l. assumption c))) λ e9.
+    by_test (n == 11) (λ e. rw (e1, e2, e3, e4, e5, e9, e) (read_made (DefaultsAbove most) (with_another s.events (read_with event_step room no_event bs)) (λ l. record s { events = l }) (λ l. assumption c))) λ e11.
+    by_test (n == 13) (λ e. rw (e1, e2, e3, e4, e5, e9, e11, e) (read_made (DefaultsAbove most) (with_another s.links (read_with link_step room no_link bs)) (λ l. record s { links = l }) (λ l. assumption c))) λ e13.
+    by_test (n == 15) (λ e. rw (e1, e2, e3, e4, e5, e9, e11, e13, e) (read_made (DefaultsAbove most) (read_with status_step room (unwrap_or s.status no_status) bs) (λ x. record s { status = Some x }) (λ x. let never : most < 15 → Some x ≡ None = λ lt. absurd (omega (arith, eqb-true n 15 e, lt, le)) in assumption (c, never)))) λ e15.
     rw (e1, e2, e3, e4, e5, e9, e11, e13, e15) tt
 known_leaves room most s n (Group bs) le c = tt
 
-kept_leaves : (most : ℕ) (made : Option (Result SpanData ReadFault)) (kept : SpanData) → Leaves most made → DefaultsAbove most kept → IfOk (unwrap_or made (Ok kept)) (DefaultsAbove most)
-kept_leaves most None kept leaves c = c
-kept_leaves most (Some r) kept leaves c = leaves
-
 pub step_leaves : (room most : ℕ) (s : SpanData) (field : Entry) (spelled : List ℕ) → field.number ≤ most → DefaultsAbove most s → IfOk (span_step room s field spelled) (DefaultsAbove most)
-step_leaves room most s field spelled le c = kept_leaves most (span_known room s field.number field.value) (keep_span s spelled) (known_leaves room most s field.number field.value le c) (assumption c)
+step_leaves room most s field spelled le c = kept_made (DefaultsAbove most) (span_known room s field.number field.value) (keep_span s spelled) (known_leaves room most s field.number field.value le c) (assumption c)
 
 -- ---- a default that is set where it is already
 
 -- an empty string is read as one
-empty_read : (bs : List ℕ) (put : List ℕ → SpanData) → bs ≡ [] → (utf8 bs >>= λ text. Ok (put text)) ≡ Ok (put [])
+pub empty_read : {A : Type 0} (bs : List ℕ) (put : List ℕ → A) → bs ≡ [] → (utf8 bs >>= λ text. Ok (put text)) ≡ Ok (put [])
 empty_read bs put none = ap (λ (b : List ℕ). utf8 b >>= λ text. Ok (put text)) none ∙ ap (λ (r : Result (List ℕ) ReadFault). r >>= λ text. Ok (put text)) (utf8_yes [] IsUtf8-nil)
 
 default_number : (room most : ℕ) (s : SpanData) (n x : ℕ) (kept : SpanData) → default_at n (Varint x) ≡ true → most < n → DefaultsAbove most s → unwrap_or (span_known room s n (Varint x)) (Ok kept) ≡ Ok s

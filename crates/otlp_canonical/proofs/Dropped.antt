@@ -1,99 +1,137 @@
--- A text's fields go by, and those that are dropped change nothing of what is read.
-use Rattle.std.proofs.Common.{◌≡◌, ◌-◌, ℕ, true, ◌<◌, ◌≤◌, List, [], ◌++◌, length, Some, Result, Ok, Err, IfOk, refl, sym, ap, ◌∙◌, append_assoc, append-nil}
+-- A text's fields go by, and what is put in place of some of them makes the same of what is read.
+use Rattle.std.proofs.Common.{◌≡◌, ◌-◌, ℕ, Bool, true, ◌<◌, ◌≤◌, List, [], ◌++◌, length, Some, Result, Ok, Err, IfOk, refl, sym, ap, ◌∙◌, append_assoc, append-nil, arith}
 use Rattle.pb_wire.specs.Grammar.{Entry, IsField}
 use Rattle.pb_wire.specs.Reading.{next_at}
 use Rattle.pb_wire.proofs.Again.{next_takes}
-use Rattle.otlp_trace.specs.Data.{SpanData}
 use Rattle.otlp_read.specs.declared.fault.ReadFault.{ReadFault}
-use Rattle.otlp_trace.specs.Defaults.{no_span}
-use Rattle.otlp_read.specs.Value.{span_step}
-use Rattle.otlp_read.specs.Walk.{◌>>=◌, before, onward, walk, read_with}
+use Rattle.otlp_read.specs.Walk.{◌>>=◌, Step, before, onward, walk, read_with}
 use Rattle.otlp_read.proofs.Laws.{begins_at}
 use Rattle.otlp_read.proofs.Opened.{opened}
 use Rattle.otlp_read.proofs.Walks.{walk_step, before_rest}
-use Rattle.otlp_canonical.specs.Defaults.{DefaultsAbove, holds_default}
-use Rattle.otlp_canonical.proofs.AtDefault.{all_defaults, fewer, step_leaves, default_step}
+use Rattle.otlp_canonical.specs.Inner.{DefaultLaws}
 
--- What a span's reader makes of what was copied and what goes on behind it is what it makes of the whole text: both come
--- to the same state, in which the fields of greater numbers are at their defaults.
-pub record Dropped (inner d : ℕ) (text copy from left : List ℕ) (most : ℕ) : Type 0 where
+-- What a reader makes of what was copied and what goes on behind it is what it makes of the whole text: both come to the
+-- same state, in which the fields of greater numbers are at their defaults.
+pub record Dropped {A : Type 0} (step : Step A) (none : A) (Above : ℕ → A → Type 0) (d : ℕ) (text copy from left : List ℕ) (most : ℕ) : Type 0 where
   pub skipped : List ℕ
   pub parts : from ≡ skipped ++ left
-  pub state : Result SpanData ReadFault
-  pub copied : (rest : List ℕ) → walk (span_step inner) d no_span ((copy ++ skipped) ++ rest) ≡ (state >>= λ s. walk (span_step inner) d s rest)
-  pub whole : walk (span_step inner) d no_span text ≡ (state >>= λ s. walk (span_step inner) d s left)
-  pub defaults : IfOk state (DefaultsAbove most)
+  pub state : Result A ReadFault
+  pub copied : (rest : List ℕ) → walk step d none ((copy ++ skipped) ++ rest) ≡ (state >>= λ s. walk step d s rest)
+  pub whole : walk step d none text ≡ (state >>= λ s. walk step d s left)
+  pub defaults : IfOk state (Above most)
 
--- the same between two fields of the loop
-pub record Going (room : ℕ) (text copy from left : List ℕ) (most : ℕ) : Type 0 where
+-- the same between two fields of the loop, behind what stood there before
+pub record Going {A : Type 0} (step : ℕ → Step A) (none : A) (Above : ℕ → A → Type 0) (room : ℕ) (text old copy from left : List ℕ) (most : ℕ) : Type 0 where
   pub within : length left ≤ length from
-  pub so_far : Dropped (room - 1) (101 - room) text copy from left most
+  pub put : List ℕ
+  pub is : copy ≡ old ++ put
+  pub so_far : Dropped (step (room - 1)) none Above (101 - room) text put from left most
 
-module _ (inner d : ℕ) where
-  pub none_dropped : (text : List ℕ) → Dropped inner d text [] text text 0
-  none_dropped text = record { skipped = []; parts = refl; state = Ok no_span; copied = λ rest. refl; whole = refl; defaults = all_defaults }
+module _ {A : Type 0} (step : ℕ → Step A) (none : A) (default : Entry → Bool) (Above : ℕ → A → Type 0) (laws : DefaultLaws step none default Above) (inner d : ℕ) where
+  pub none_dropped : (text : List ℕ) → Dropped (step inner) none Above d text [] text text 0
+  none_dropped text = record { skipped = []; parts = refl; state = Ok none; copied = λ rest. refl; whole = refl; defaults = laws.first }
 
   -- a field, and then the others
-  front_walked : (s : SpanData) (front rest : List ℕ) (field : Entry) → IsField d front field → walk (span_step inner) d s (front ++ rest) ≡ (span_step inner s field front >>= λ t. walk (span_step inner) d t rest)
+  front_walked : (s : A) (front rest : List ℕ) (field : Entry) → IsField d front field → walk (step inner) d s (front ++ rest) ≡ (step inner s field front >>= λ t. walk (step inner) d t rest)
   front_walked s front rest field first =
-      walk_step (span_step inner) d s (front ++ rest) ∙ ap (onward (span_step inner) (walk (span_step inner) d) s (front ++ rest)) (begins_at d front rest field first)
-      ∙ ap (λ (spelled : List ℕ). span_step inner s field spelled >>= λ t. walk (span_step inner) d t rest) (before_rest front rest)
+      walk_step (step inner) d s (front ++ rest) ∙ ap (onward (step inner) (walk (step inner) d) s (front ++ rest)) (begins_at d front rest field first)
+      ∙ ap (λ (spelled : List ℕ). step inner s field spelled >>= λ t. walk (step inner) d t rest) (before_rest front rest)
 
-  state_walked : (state : Result SpanData ReadFault) (front rest : List ℕ) (field : Entry) → IsField d front field
-      → (state >>= λ s. walk (span_step inner) d s (front ++ rest)) ≡ ((state >>= λ s. span_step inner s field front) >>= λ t. walk (span_step inner) d t rest)
+  state_walked : (state : Result A ReadFault) (front rest : List ℕ) (field : Entry) → IsField d front field
+      → (state >>= λ s. walk (step inner) d s (front ++ rest)) ≡ ((state >>= λ s. step inner s field front) >>= λ t. walk (step inner) d t rest)
   state_walked (Ok s) front rest field first = front_walked s front rest field first
   state_walked (Err f) front rest field first = refl
 
-  state_leaves : (state : Result SpanData ReadFault) (low high : ℕ) (field : Entry) (spelled : List ℕ) → low ≤ high → field.number ≤ high → IfOk state (DefaultsAbove low) → IfOk (state >>= λ s. span_step inner s field spelled) (DefaultsAbove high)
-  state_leaves (Ok s) low high field spelled le fits c = step_leaves inner high s field spelled fits (fewer low high s le c)
+  state_leaves : (state : Result A ReadFault) (low high : ℕ) (field : Entry) (spelled : List ℕ) → low ≤ high → field.number ≤ high → IfOk state (Above low) → IfOk (state >>= λ s. step inner s field spelled) (Above high)
+  state_leaves (Ok s) low high field spelled le fits c = laws.leaves inner high s field spelled fits (laws.fewer low high s le c)
   state_leaves (Err f) low high field spelled le fits c = tt
 
-  state_fewer : (state : Result SpanData ReadFault) (low high : ℕ) → low ≤ high → IfOk state (DefaultsAbove low) → IfOk state (DefaultsAbove high)
-  state_fewer (Ok s) low high le c = fewer low high s le c
-  state_fewer (Err f) low high le c = tt
+  -- what is put in place of a field
+  abbrev pub Alike : ℕ → Entry → List ℕ → Type 0
+  Alike most field put =
+      (s : A) (spelled rest : List ℕ) → Above most s → walk (step inner) d s (put ++ rest) ≡ (step inner s field spelled >>= λ t. walk (step inner) d t rest)
 
-  state_default : (state : Result SpanData ReadFault) (most : ℕ) (field : Entry) (spelled : List ℕ) → holds_default field ≡ true → most < field.number → IfOk state (DefaultsAbove most) → (state >>= λ s. span_step inner s field spelled) ≡ state
-  state_default (Ok s) most field spelled is lt c = default_step inner most s field spelled is lt c
-  state_default (Err f) most field spelled is lt c = refl
+  state_alike : (state : Result A ReadFault) (most : ℕ) (field : Entry) (put front rest : List ℕ) → Alike most field put → IfOk state (Above most)
+      → (state >>= λ s. walk (step inner) d s (put ++ rest)) ≡ ((state >>= λ s. step inner s field front) >>= λ t. walk (step inner) d t rest)
+  state_alike (Ok s) most field put front rest alike c = alike s front rest c
+  state_alike (Err f) most field put front rest alike c = refl
 
-  pub one_kept : (text copy from left rest : List ℕ) (low high : ℕ) (field : Entry) → low ≤ high → field.number ≤ high → next_at d left ≡ Ok (Some (field, rest)) → Dropped inner d text copy from left low → Dropped inner d text copy from rest high
+  -- nothing in place of a default
+  pub default_alike : (most : ℕ) (field : Entry) → default field ≡ true → most < field.number → Alike most field []
+  default_alike most field is lt s spelled rest c = sym (ap (λ (r : Result A ReadFault). r >>= λ t. walk (step inner) d t rest) (laws.same inner most s field spelled is lt c))
+
+  pub one_kept : (text copy from left rest : List ℕ) (low high : ℕ) (field : Entry) → low ≤ high → field.number ≤ high → next_at d left ≡ Ok (Some (field, rest)) → Dropped (step inner) none Above d text copy from left low
+      → Dropped (step inner) none Above d text copy from rest high
   one_kept text copy from left rest low high field le fits found p =
       let b = next_takes d left field rest found in
       let front = b.front in
       record {
         skipped = p.skipped ++ front;
         parts = p.parts ∙ ap (λ (t : List ℕ). p.skipped ++ t) b.parts ∙ sym (append_assoc p.skipped front rest);
-        state = p.state >>= λ s. span_step inner s field front;
+        state = p.state >>= λ s. step inner s field front;
         copied = λ others.
-            ap (walk (span_step inner) d no_span) (ap (λ (t : List ℕ). t ++ others) (sym (append_assoc copy p.skipped front)) ∙ append_assoc (copy ++ p.skipped) front others)
+            ap (walk (step inner) d none) (ap (λ (t : List ℕ). t ++ others) (sym (append_assoc copy p.skipped front)) ∙ append_assoc (copy ++ p.skipped) front others)
             ∙ p.copied (front ++ others) ∙ state_walked p.state front others field b.first;
-        whole = p.whole ∙ ap (λ (t : List ℕ). p.state >>= λ s. walk (span_step inner) d s t) b.parts ∙ state_walked p.state front rest field b.first;
+        whole = p.whole ∙ ap (λ (t : List ℕ). p.state >>= λ s. walk (step inner) d s t) b.parts ∙ state_walked p.state front rest field b.first;
         defaults = state_leaves p.state low high field front le fits p.defaults;
       }
 
-  pub one_dropped : (text copy from left rest : List ℕ) (low high : ℕ) (field : Entry) (longer : List ℕ) → longer ≡ copy ++ before from left → holds_default field ≡ true → low < field.number → low ≤ high → next_at d left ≡ Ok (Some (field, rest)) → Dropped inner d text copy from left low
-      → Dropped inner d text longer rest rest high
-  one_dropped text copy from left rest low high field longer is default lt le found p =
+  -- a field behind which nothing is copied yet, with another text in its place
+  pub one_put : (text copy from left rest : List ℕ) (low high : ℕ) (field : Entry) (longer put : List ℕ) → longer ≡ (copy ++ before from left) ++ put → Alike low field put → low ≤ high → field.number ≤ high → next_at d left ≡ Ok (Some (field, rest))
+      → Dropped (step inner) none Above d text copy from left low → Dropped (step inner) none Above d text longer rest rest high
+  one_put text copy from left rest low high field longer put is alike le fits found p =
       let b = next_takes d left field rest found in
       let front = b.front in
       let run : before from left ≡ p.skipped = ap (λ (t : List ℕ). before t left) p.parts ∙ before_rest p.skipped left in
-      let so_far : longer ++ [] ≡ copy ++ p.skipped = append-nil longer ∙ is ∙ ap (λ (t : List ℕ). copy ++ t) run in
+      let so_far : longer ++ [] ≡ (copy ++ p.skipped) ++ put = append-nil longer ∙ is ∙ ap (λ (t : List ℕ). (copy ++ t) ++ put) run in
       record {
         skipped = [];
         parts = refl;
-        state = p.state;
-        copied = λ others. ap (λ (t : List ℕ). walk (span_step inner) d no_span (t ++ others)) so_far ∙ p.copied others;
-        whole = p.whole ∙ ap (λ (t : List ℕ). p.state >>= λ s. walk (span_step inner) d s t) b.parts ∙ state_walked p.state front rest field b.first
-            ∙ ap (λ (r : Result SpanData ReadFault). r >>= λ s. walk (span_step inner) d s rest) (state_default p.state low field front default lt p.defaults);
-        defaults = state_fewer p.state low high le p.defaults;
+        state = p.state >>= λ s. step inner s field front;
+        copied = λ others.
+            ap (λ (t : List ℕ). walk (step inner) d none (t ++ others)) so_far ∙ ap (walk (step inner) d none) (append_assoc (copy ++ p.skipped) put others)
+            ∙ p.copied (put ++ others) ∙ state_alike p.state low field put front others alike p.defaults;
+        whole = p.whole ∙ ap (λ (t : List ℕ). p.state >>= λ s. walk (step inner) d s t) b.parts ∙ state_walked p.state front rest field b.first;
+        defaults = state_leaves p.state low high field front le fits p.defaults;
       }
 
   -- what was copied, and what isn't yet
-  pub walked_same : (text copy from left : List ℕ) (most : ℕ) → Dropped inner d text copy from left most → walk (span_step inner) d no_span text ≡ walk (span_step inner) d no_span (copy ++ from)
+  pub walked_same : (text copy from left : List ℕ) (most : ℕ) → Dropped (step inner) none Above d text copy from left most → walk (step inner) d none text ≡ walk (step inner) d none (copy ++ from)
   walked_same text copy from left most p =
-      p.whole ∙ sym (p.copied left) ∙ ap (walk (span_step inner) d no_span) (append_assoc copy p.skipped left ∙ ap (λ (t : List ℕ). copy ++ t) (sym p.parts))
+      p.whole ∙ sym (p.copied left) ∙ ap (walk (step inner) d none) (append_assoc copy p.skipped left ∙ ap (λ (t : List ℕ). copy ++ t) (sym p.parts))
 
-pub read_same : (room : ℕ) (text copy from left copied : List ℕ) (most : ℕ) → 0 < room → copied ≡ copy ++ from → Dropped (room - 1) (101 - room) text copy from left most → read_with span_step room no_span text ≡ read_with span_step room no_span copied
-read_same room text copy from left copied most some is p =
-    opened span_step room no_span text some ∙ walked_same (room - 1) (101 - room) text copy from left most p
-    ∙ ap (walk (span_step (room - 1)) (101 - room) no_span) (sym is) ∙ sym (opened span_step room no_span copied some)
+module _ {A : Type 0} (step : ℕ → Step A) (none : A) (default : Entry → Bool) (Above : ℕ → A → Type 0) (laws : DefaultLaws step none default Above) (room : ℕ) (text old : List ℕ) where
+  pub going_none : Going step none Above room text old old text text 0
+  going_none = record { within = omega arith; put = []; is = sym (append-nil old); so_far = none_dropped step none default Above laws (room - 1) (101 - room) text }
+
+  pub going_kept : (copy from left rest : List ℕ) (low high : ℕ) (field : Entry) → length rest < length left → low ≤ high → field.number ≤ high → next_at (101 - room) left ≡ Ok (Some (field, rest))
+      → Going step none Above room text old copy from left low → Going step none Above room text old copy from rest high
+  going_kept copy from left rest low high field shorter le fits found g = record {
+    within = omega (arith, g.within);
+    put = g.put;
+    is = g.is;
+    so_far = one_kept step none default Above laws (room - 1) (101 - room) text g.put from left rest low high field le fits found g.so_far;
+  }
+
+  pub going_put : (copy run longer from left rest : List ℕ) (low high : ℕ) (field : Entry) (put : List ℕ) → run ≡ copy ++ before from left → longer ≡ run ++ put → Alike step none default Above laws (room - 1) (101 - room) low field put
+      → low ≤ high → field.number ≤ high → next_at (101 - room) left ≡ Ok (Some (field, rest)) → Going step none Above room text old copy from left low → Going step none Above room text old longer rest rest high
+  going_put copy run longer from left rest low high field put first is alike le fits found g = record {
+    within = omega arith;
+    put = (g.put ++ before from left) ++ put;
+    is =
+        is ∙ ap (λ (t : List ℕ). t ++ put) (first ∙ ap (λ (t : List ℕ). t ++ before from left) g.is ∙ append_assoc old g.put (before from left))
+        ∙ append_assoc old (g.put ++ before from left) put;
+    so_far = one_put step none default Above laws (room - 1) (101 - room) text g.put from left rest low high field ((g.put ++ before from left) ++ put) put refl alike le fits found g.so_far;
+  }
+
+  -- nothing in place of a default
+  pub going_dropped : (copy longer from left rest : List ℕ) (low high : ℕ) (field : Entry) → longer ≡ copy ++ before from left → default field ≡ true → low < field.number → low ≤ high → field.number ≤ high → next_at (101 - room) left ≡ Ok (Some (field, rest))
+      → Going step none Above room text old copy from left low → Going step none Above room text old longer rest rest high
+  going_dropped copy longer from left rest low high field is default_is above le fits found g =
+      going_put copy longer longer from left rest low high field [] is (sym (append-nil longer)) (default_alike step none default Above laws (room - 1) (101 - room) low field default_is above) le fits found g
+
+  -- with what isn't copied yet
+  pub going_same : (copy from left : List ℕ) (most : ℕ) → 0 < room → (g : Going step none Above room text old copy from left most) → read_with step room none text ≡ read_with step room none (g.put ++ from)
+  going_same copy from left most some g =
+      opened step room none text some ∙ walked_same step none default Above laws (room - 1) (101 - room) text g.put from left most g.so_far
+      ∙ sym (opened step room none (g.put ++ from) some)

@@ -1,6 +1,6 @@
 -- A span's fields of one value that are written at their default (the proto3 language guide, "Default Field Values",
 -- over the fields of `Span` of OTLP 1.x's trace.proto).
-use Rattle.std.specs.Prelude.{◌≡◌, ◌==◌, ◌&&◌, ◌||◌, ◌<◌, ℕ, pos, Bool, false, [], length}
+use Rattle.std.specs.Prelude.{◌≡◌, ◌==◌, ◌&&◌, ◌||◌, ◌<◌, ℕ, pos, Bool, false, [], length, None}
 use Rattle.pb_wire.specs.Grammar.{Datum, Varint, Eight, Bytes, Four, Entry}
 use Rattle.otlp_trace.specs.Data.{SpanData}
 use Rattle.otlp_read.specs.Numbers.{fixed32, fixed64}
@@ -25,7 +25,7 @@ default_at n _ = false
 abbrev pub holds_default : Entry → Bool
 holds_default field = default_at field.number field.value
 
--- whichever of these fields has a number above this one is at its default in the span
+-- whichever of these fields has a number above this one is at its default in the span, and a status isn't there
 pub record DefaultsAbove (most : ℕ) (s : SpanData) : Type 0 where
   pub trace_id : most < 1 → s.trace_id ≡ []
   pub span_id : most < 2 → s.span_id ≡ []
@@ -38,4 +38,5 @@ pub record DefaultsAbove (most : ℕ) (s : SpanData) : Type 0 where
   pub dropped_attributes_count : most < 10 → s.dropped_attributes_count ≡ 0
   pub dropped_events_count : most < 12 → s.dropped_events_count ≡ 0
   pub dropped_links_count : most < 14 → s.dropped_links_count ≡ 0
+  pub status : most < 15 → s.status ≡ None
   pub flags : most < 16 → s.flags ≡ 0

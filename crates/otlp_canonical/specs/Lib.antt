@@ -1,5 +1,6 @@
 pub mod Canonical
 pub mod Defaults
+pub mod Inner
 pub mod Order
 pub mod Parts
 pub mod Sound

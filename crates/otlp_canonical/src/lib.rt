@@ -13,6 +13,7 @@
 
 mod defaults;
 mod field;
+mod inner;
 mod message;
 mod number;
 mod order;

@@ -168,7 +168,7 @@ fn sorted(alloc: Global, text: &[u8], room: u32) -> Result<Option<Vec<u8>>, Allo
 /// written out; with room for so many levels, as in `is_span_text`. Else none, and nothing is said of the text.
 ///
 /// The fields of a message inside the span aren't put in order. The text may have some bytes of room more than it
-/// takes: at most 20 for each default.
+/// takes: at most 38 for each default.
 pub fn in_order(alloc: Global, text: &[u8], room: u32) -> Result<Option<Vec<u8>>, AllocError>
     ensures { IfOk result (λ found. IfSome found (λ copy. CanonicalCopy room text.now
         copy.items)) }

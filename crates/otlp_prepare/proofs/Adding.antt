@@ -12,7 +12,7 @@ use Rattle.span_pool.specs.Stored.{Origin as OriginData, bytes_of}
 use Rattle.tail_settings.specs.Policy.{PolicyData}
 use Rattle.tail_policy.specs.declared.note.ResourceBits.{ResourceBits}
 use Rattle.tenant_rules.specs.Arrivals.{Arrival, is_valid}
-use Rattle.otlp_prepare.specs.declared.noted.SpanOrigin.{SpanOrigin}
+use Rattle.otlp_prepare.specs.Origin.{OriginTexts}
 use Rattle.otlp_prepare.specs.Arrivals.{origin_view, no_origin, origin_at, arrival_with}
 use Rattle.otlp_prepare.specs.BodySpans.{UnnotedSpanData, part_with, part_arrival, part_arrivals, bits_in, IsFound, AreFound, Adds, AddsAround, IsValidRead, IsAround, arrivals_in_scope, arrivals_in_resource, arrivals_around}
 use Rattle.otlp_prepare.proofs.Lists.{every_append}
@@ -20,15 +20,15 @@ use Rattle.otlp_prepare.proofs.Read.{AllTold, told}
 
 -- ---- the origins that were there
 
-origin_kept : (os : List SpanOrigin) (o : SpanOrigin) (i : ℕ) → i < length os → origin_at (os ++ o ∷ []) i ≡ origin_at os i
-origin_kept os o i within = ap (λ (x : SpanOrigin). origin_view x) (get_or_append_left os (o ∷ []) no_origin i within)
+origin_kept : (os : List OriginTexts) (o : OriginTexts) (i : ℕ) → i < length os → origin_at (os ++ o ∷ []) i ≡ origin_at os i
+origin_kept os o i within = ap (λ (x : OriginTexts). origin_view x) (get_or_append_left os (o ∷ []) no_origin i within)
 
-arrival_kept : (os : List SpanOrigin) (o : SpanOrigin) (part : UnnotedSpanData) → part.origin < length os
+arrival_kept : (os : List OriginTexts) (o : OriginTexts) (part : UnnotedSpanData) → part.origin < length os
     → part_arrival (os ++ o ∷ []) part ≡ part_arrival os part
 arrival_kept os o part within =
     ap (λ (around : OriginData). arrival_with around part.text) (origin_kept os o part.origin within)
 
-found_kept : (policies : List PolicyData) (os : List SpanOrigin) (o : SpanOrigin) (part : UnnotedSpanData) → IsFound policies os part
+found_kept : (policies : List PolicyData) (os : List OriginTexts) (o : OriginTexts) (part : UnnotedSpanData) → IsFound policies os part
     → IsFound policies (os ++ o ∷ []) part
 found_kept policies os o part is =
     let same = origin_kept os o part.origin is.within in
@@ -42,12 +42,12 @@ found_kept policies os o part is =
       around = subst (λ (around : OriginData). IsShort (bytes_of around.resource)) (sym same) is.around;
     }
 
-all_kept : (policies : List PolicyData) (os : List SpanOrigin) (o : SpanOrigin) (parts : List UnnotedSpanData) → AreFound policies os parts
+all_kept : (policies : List PolicyData) (os : List OriginTexts) (o : OriginTexts) (parts : List UnnotedSpanData) → AreFound policies os parts
     → AreFound policies (os ++ o ∷ []) parts
 all_kept policies os o [] are = tt
 all_kept policies os o (part ∷ parts) are = (found_kept policies os o part are.0, all_kept policies os o parts are.1)
 
-arrivals_kept : (policies : List PolicyData) (os : List SpanOrigin) (o : SpanOrigin) (parts : List UnnotedSpanData) → AreFound policies os parts
+arrivals_kept : (policies : List PolicyData) (os : List OriginTexts) (o : OriginTexts) (parts : List UnnotedSpanData) → AreFound policies os parts
     → part_arrivals (os ++ o ∷ []) parts ≡ part_arrivals os parts
 arrivals_kept policies os o [] are = refl
 arrivals_kept policies os o (part ∷ parts) are =
@@ -57,15 +57,15 @@ arrivals_kept policies os o (part ∷ parts) are =
 
 -- ---- the one that came
 
-origin_added : (os : List SpanOrigin) (o : SpanOrigin) (around : OriginData) → origin_view o ≡ around
+origin_added : (os : List OriginTexts) (o : OriginTexts) (around : OriginData) → origin_view o ≡ around
     → origin_at (os ++ o ∷ []) (length os) ≡ around
-origin_added os o around is = ap (λ (x : SpanOrigin). origin_view x) (get_or-append_seam os o [] no_origin) ∙ is
+origin_added os o around is = ap (λ (x : OriginTexts). origin_view x) (get_or-append_seam os o [] no_origin) ∙ is
 
 -- a span with these ids is valid
 abbrev are_ids : SpanFacts → Bool
 are_ids f = is_id 16 f.trace_id && is_id 8 f.span_id
 
-found_added : (law : AllTold) (policies : List PolicyData) (os : List SpanOrigin) (o : SpanOrigin) (around : OriginData) (bits : ResourceBits)
+found_added : (law : AllTold) (policies : List PolicyData) (os : List OriginTexts) (o : OriginTexts) (around : OriginData) (bits : ResourceBits)
     → origin_view o ≡ around → IsAround policies around.resource bits → (text : List ℕ) → IsValidRead text → IsShort text
     → IsFound policies (os ++ o ∷ []) (part_with bits (length os) text)
 found_added law policies os o around bits is resource text read short =
@@ -81,7 +81,7 @@ found_added law policies os o around bits is resource text read short =
       around = subst (λ (a : OriginData). IsShort (bytes_of a.resource)) (sym at) resource.short;
     }
 
-all_added : (law : AllTold) (policies : List PolicyData) (os : List SpanOrigin) (o : SpanOrigin) (around : OriginData) (bits : ResourceBits)
+all_added : (law : AllTold) (policies : List PolicyData) (os : List OriginTexts) (o : OriginTexts) (around : OriginData) (bits : ResourceBits)
     → origin_view o ≡ around → IsAround policies around.resource bits → (texts : List (List ℕ)) → AllByRecursion IsValidRead texts
     → AllByRecursion IsShort texts → AreFound policies (os ++ o ∷ []) (map (part_with bits (length os)) texts)
 all_added law policies os o around bits is resource [] read short = tt
@@ -90,7 +90,7 @@ all_added law policies os o around bits is resource (text ∷ texts) read short 
   all_added law policies os o around bits is resource texts read.1 short.1,
 )
 
-arrivals_added : (os : List SpanOrigin) (o : SpanOrigin) (around : OriginData) (bits : ResourceBits) → origin_view o ≡ around → (texts : List (List ℕ))
+arrivals_added : (os : List OriginTexts) (o : OriginTexts) (around : OriginData) (bits : ResourceBits) → origin_view o ≡ around → (texts : List (List ℕ))
     → part_arrivals (os ++ o ∷ []) (map (part_with bits (length os)) texts) ≡ map (arrival_with around) texts
 arrivals_added os o around bits is [] = refl
 arrivals_added os o around bits is (text ∷ texts) =
@@ -101,7 +101,7 @@ arrivals_added os o around bits is (text ∷ texts) =
 -- ---- both
 
 -- one origin comes with at least one span
-one_for_some : (os : List SpanOrigin) (o : SpanOrigin) (bits : ResourceBits) (texts : List (List ℕ)) (parts : List UnnotedSpanData) → 0 < length texts
+one_for_some : (os : List OriginTexts) (o : OriginTexts) (bits : ResourceBits) (texts : List (List ℕ)) (parts : List UnnotedSpanData) → 0 < length texts
     → length (os ++ o ∷ []) + length parts ≤ length os + length (parts ++ map (part_with bits (length os)) texts)
 one_for_some os o bits texts parts some =
     let one = length-append os (o ∷ []) in
@@ -109,7 +109,7 @@ one_for_some os o bits texts parts some =
     let made = length-map texts (part_with bits (length os)) in
     omega (arith, one, more, made, some)
 
-added_behind : (law : AllTold) (policies : List PolicyData) (os : List SpanOrigin) (o : SpanOrigin) (around : OriginData) (bits : ResourceBits)
+added_behind : (law : AllTold) (policies : List PolicyData) (os : List OriginTexts) (o : OriginTexts) (around : OriginData) (bits : ResourceBits)
     → origin_view o ≡ around → IsAround policies around.resource bits → (texts : List (List ℕ)) → AllByRecursion IsValidRead texts
     → AllByRecursion IsShort texts → 0 < length texts → (parts : List UnnotedSpanData) → AreFound policies os parts
     → Adds policies (map (arrival_with around) texts) os parts (os ++ o ∷ []) (parts ++ map (part_with bits (length os)) texts)
@@ -125,18 +125,18 @@ added_behind law policies os o around bits is resource texts read short some par
     }
 
 -- the spans of one scope that has some, as the code adds them
-pub added : (law : AllTold) (policies : List PolicyData) (os os' : List SpanOrigin) (o : SpanOrigin) (around : OriginData) (bits : ResourceBits) (n : ℕ)
+pub added : (law : AllTold) (policies : List PolicyData) (os os' : List OriginTexts) (o : OriginTexts) (around : OriginData) (bits : ResourceBits) (n : ℕ)
     → origin_view o ≡ around → IsAround policies around.resource bits → (texts : List (List ℕ)) → AllByRecursion IsValidRead texts
     → AllByRecursion IsShort texts → 0 < length texts → (parts parts' : List UnnotedSpanData) → AreFound policies os parts → os' ≡ os ++ o ∷ [] → n ≡ length os
     → parts' ≡ parts ++ map (part_with bits n) texts → Adds policies (map (arrival_with around) texts) os parts os' parts'
 added law policies os os' o around bits n is resource texts read short some parts parts' are pushed index behind =
     let all = added_behind law policies os o around bits is resource texts read short some parts are in
     let spans : parts' ≡ parts ++ map (part_with bits (length os)) texts = behind ∙ ap (λ (i : ℕ). parts ++ map (part_with bits i) texts) index in
-    let placed = subst (λ (xs : List SpanOrigin). Adds policies (map (arrival_with around) texts) os parts xs (parts ++ map (part_with bits (length os)) texts)) (sym pushed) all in
+    let placed = subst (λ (xs : List OriginTexts). Adds policies (map (arrival_with around) texts) os parts xs (parts ++ map (part_with bits (length os)) texts)) (sym pushed) all in
     subst (λ (xs : List UnnotedSpanData). Adds policies (map (arrival_with around) texts) os parts os' xs) (sym spans) placed
 
 -- of one that has none
-pub none_added : (policies : List PolicyData) (os : List SpanOrigin) (around : OriginData) (texts : List (List ℕ)) (parts : List UnnotedSpanData)
+pub none_added : (policies : List PolicyData) (os : List OriginTexts) (around : OriginData) (texts : List (List ℕ)) (parts : List UnnotedSpanData)
     → length texts ≡ 0 → AreFound policies os parts → Adds policies (map (arrival_with around) texts) os parts os parts
 none_added policies os around [] parts none are = record { found = are; whole = sym (append-nil (part_arrivals os parts)); sparing = omega arith }
 none_added policies os around (text ∷ texts) parts none are = absurd (omega (arith, none))
@@ -144,18 +144,18 @@ none_added policies os around (text ∷ texts) parts none are = absurd (omega (a
 -- ---- the scopes of a resource
 
 -- the spans of some scopes were found behind those that had been, and the scopes that are left give the rest
-pub record IsAdding (policies : List PolicyData) (group : ResourceTexts) (left : List ScopeTexts) (os : List SpanOrigin) (parts : List UnnotedSpanData)
-    (os' : List SpanOrigin) (parts' : List UnnotedSpanData) : Type 0 where
+pub record IsAdding (policies : List PolicyData) (group : ResourceTexts) (left : List ScopeTexts) (os : List OriginTexts) (parts : List UnnotedSpanData)
+    (os' : List OriginTexts) (parts' : List UnnotedSpanData) : Type 0 where
   pub found : AreFound policies os' parts'
   pub whole : part_arrivals os' parts' ++ flat_map (arrivals_in_scope group) left ≡ part_arrivals os parts ++ arrivals_in_resource group
   pub sparing : length os' + length parts ≤ length os + length parts'
 
-pub none_yet : (policies : List PolicyData) (group : ResourceTexts) (left : List ScopeTexts) (os : List SpanOrigin) (parts : List UnnotedSpanData) → left ≡ group.scopes → AreFound policies os parts
+pub none_yet : (policies : List PolicyData) (group : ResourceTexts) (left : List ScopeTexts) (os : List OriginTexts) (parts : List UnnotedSpanData) → left ≡ group.scopes → AreFound policies os parts
     → IsAdding policies group left os parts os parts
 none_yet policies group left os parts all are =
     record { found = are; whole = ap (λ (xs : List ScopeTexts). part_arrivals os parts ++ flat_map (arrivals_in_scope group) xs) all; sparing = omega arith }
 
-pub one_more : (policies : List PolicyData) (group : ResourceTexts) (scope : ScopeTexts) (before left : List ScopeTexts) (os os' os'' : List SpanOrigin) (parts parts' parts'' : List UnnotedSpanData)
+pub one_more : (policies : List PolicyData) (group : ResourceTexts) (scope : ScopeTexts) (before left : List ScopeTexts) (os os' os'' : List OriginTexts) (parts parts' parts'' : List UnnotedSpanData)
     → before ≡ scope ∷ left → IsAdding policies group before os parts os' parts' → Adds policies (arrivals_in_scope group scope) os' parts' os'' parts''
     → IsAdding policies group left os parts os'' parts''
 one_more policies group scope before left os os' os'' parts parts' parts'' next is adds = record {
@@ -167,13 +167,13 @@ one_more policies group scope before left os os' os'' parts parts' parts'' next 
   sparing = omega (arith, is.sparing, adds.sparing);
 }
 
-pub all_now : {A : Type 0} (f : A → ScopeTexts) (policies : List PolicyData) (group : ResourceTexts) (left : List A) (os os' : List SpanOrigin) (parts parts' : List UnnotedSpanData) → length left ≡ 0
+pub all_now : {A : Type 0} (f : A → ScopeTexts) (policies : List PolicyData) (group : ResourceTexts) (left : List A) (os os' : List OriginTexts) (parts parts' : List UnnotedSpanData) → length left ≡ 0
     → IsAdding policies group (map f left) os parts os' parts' → Adds policies (arrivals_in_resource group) os parts os' parts'
 all_now f policies group [] os os' parts parts' none is = record { found = is.found; whole = sym (append-nil (part_arrivals os' parts')) ∙ is.whole; sparing = is.sparing }
 all_now f policies group (scope ∷ left) os os' parts parts' none is = absurd (omega (arith, none))
 
 -- of a resource of one scope
-of_one : (policies : List PolicyData) (group : ResourceTexts) (scope : ScopeTexts) (os os' : List SpanOrigin) (parts parts' : List UnnotedSpanData) → group.scopes ≡ scope ∷ []
+of_one : (policies : List PolicyData) (group : ResourceTexts) (scope : ScopeTexts) (os os' : List OriginTexts) (parts parts' : List UnnotedSpanData) → group.scopes ≡ scope ∷ []
     → Adds policies (arrivals_in_scope group scope) os parts os' parts' → Adds policies (arrivals_in_resource group) os parts os' parts'
 of_one policies group scope os os' parts parts' one adds =
     let same : arrivals_in_scope group scope ≡ arrivals_in_resource group = sym (append-nil (arrivals_in_scope group scope)) ∙ ap (flat_map (arrivals_in_scope group)) (sym one) in
@@ -184,7 +184,7 @@ abbrev with_scopes : Option (List ℕ) → Option (List ℕ) → List ScopeTexts
 with_scopes resource schema_url scopes = record { resource = resource; schema_url = bytes_of schema_url; scopes = scopes }
 
 -- by what stands round a resource spans as the code has it
-pub all_around : {T E : Type 0} (policies : List PolicyData) (group : ResourceTexts) (resource schema_url : Option (List ℕ)) (bits bits' : ResourceBits) (scopes : List ScopeTexts) (os os' : List SpanOrigin) (parts parts' : List UnnotedSpanData)
+pub all_around : {T E : Type 0} (policies : List PolicyData) (group : ResourceTexts) (resource schema_url : Option (List ℕ)) (bits bits' : ResourceBits) (scopes : List ScopeTexts) (os os' : List OriginTexts) (parts parts' : List UnnotedSpanData)
     → resource ≡ group.resource → bytes_of schema_url ≡ group.schema_url → bits' ≡ bits → scopes ≡ group.scopes → IsAround policies group.resource bits → AreFound policies os parts
     → (r : Result T E) → OnOk r (AddsAround resource bits' (arrivals_in_resource (with_scopes resource schema_url scopes)) os parts os' parts')
     → OnOk r (Adds policies (arrivals_in_resource group) os parts os' parts')
@@ -196,7 +196,7 @@ all_around policies group resource schema_url bits bits' scopes os os' parts par
 all_around policies group resource schema_url bits bits' scopes os os' parts parts' text url told all around are (Err x) adds = tt
 
 -- and of one scope
-pub one_around : {T E : Type 0} (policies : List PolicyData) (group : ResourceTexts) (resource schema_url : Option (List ℕ)) (bits bits' : ResourceBits) (scope : ScopeTexts) (os os' : List SpanOrigin) (parts parts' : List UnnotedSpanData)
+pub one_around : {T E : Type 0} (policies : List PolicyData) (group : ResourceTexts) (resource schema_url : Option (List ℕ)) (bits bits' : ResourceBits) (scope : ScopeTexts) (os os' : List OriginTexts) (parts parts' : List UnnotedSpanData)
     → resource ≡ group.resource → bytes_of schema_url ≡ group.schema_url → bits' ≡ bits → scope ∷ [] ≡ group.scopes → IsAround policies group.resource bits → AreFound policies os parts
     → (r : Result T E) → OnOk r (AddsAround resource bits' (arrivals_around resource schema_url scope) os parts os' parts')
     → OnOk r (Adds policies (arrivals_in_resource group) os parts os' parts')

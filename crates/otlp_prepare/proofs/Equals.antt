@@ -12,7 +12,7 @@ use Rattle.otlp_parts.proofs.Same.{text_decides}
 use Rattle.span_pool.specs.Stored.{Origin as OriginData, bytes_of}
 use Rattle.span_pool.specs.Equal.{origin_eq}
 use Rattle.tenant_rules.specs.Arrivals.{Arrival}
-use Rattle.otlp_prepare.specs.declared.noted.SpanOrigin.{SpanOrigin}
+use Rattle.otlp_prepare.specs.Origin.{OriginTexts}
 use Rattle.otlp_prepare.specs.declared.noted.NotedSpan.{NotedSpan}
 use Rattle.otlp_prepare.specs.Arrivals.{arrival_in, arrivals_in}
 use Rattle.otlp_prepare.specs.Equal.{arrival_eq, status_number, signed, leaf_parts, policy_parts, policy_eq, same_policies, prepared_eq}
@@ -93,7 +93,7 @@ origin_decides a b =
     )
 
 -- what policies ask of a span follows from its text and its resource's
-arrival_decides : (os ps : List SpanOrigin) (x y : NotedSpan) → Decides (arrival_eq (arrival_in os x) (arrival_in ps y)) (arrival_in os x ≡ arrival_in ps y)
+arrival_decides : (os ps : List OriginTexts) (x y : NotedSpan) → Decides (arrival_eq (arrival_in os x) (arrival_in ps y)) (arrival_in os x ≡ arrival_in ps y)
 arrival_decides os ps x y =
     let mine = arrival_in os x in
     let theirs = arrival_in ps y in
@@ -102,7 +102,7 @@ arrival_decides os ps x y =
       λ h. parts.1 (ap (λ (a : Arrival). a.text) h, ap (λ (a : Arrival). a.origin) h),
     )
 
-arrivals_decide : (os ps : List SpanOrigin) (xs ys : List NotedSpan) → Decides (pointwise arrival_eq (arrivals_in os xs) (arrivals_in ps ys)) (arrivals_in os xs ≡ arrivals_in ps ys)
+arrivals_decide : (os ps : List OriginTexts) (xs ys : List NotedSpan) → Decides (pointwise arrival_eq (arrivals_in os xs) (arrivals_in ps ys)) (arrivals_in os xs ≡ arrivals_in ps ys)
 arrivals_decide os ps [] [] = (λ h. refl, λ h. refl)
 arrivals_decide os ps [] (y ∷ ys) = (λ h. absurd (cc), λ h. absurd (cc))
 arrivals_decide os ps (x ∷ xs) [] = (λ h. absurd (cc), λ h. absurd (cc))
@@ -115,7 +115,7 @@ arrivals_decide os ps (x ∷ xs) (y ∷ ys) =
           parts.1 (first, rest),
     )
 
-pub prepared_decides : (p q : PreparedData) (os ps : List SpanOrigin) (xs ys : List NotedSpan) → p.arrivals ≡ arrivals_in os xs → q.arrivals ≡ arrivals_in ps ys → Decides (prepared_eq p q) (p ≡ q)
+pub prepared_decides : (p q : PreparedData) (os ps : List OriginTexts) (xs ys : List NotedSpan) → p.arrivals ≡ arrivals_in os xs → q.arrivals ≡ arrivals_in ps ys → Decides (prepared_eq p q) (p ≡ q)
 prepared_decides p q os ps xs ys mine theirs =
     let kept = arrivals_decide os ps xs ys in
     let first = subst (λ (zs : List Arrival). Decides (pointwise arrival_eq (arrivals_in os xs) zs) (arrivals_in os xs ≡ zs)) (sym theirs) kept in
@@ -134,7 +134,7 @@ prepared_decides p q os ps xs ys mine theirs =
 -- ---- spans one by one
 
 -- what is left of two lists of spans, where they agreed so far
-pub one_more : (os ps : List SpanOrigin) (xs ys : List NotedSpan) (i : ℕ) (d : NotedSpan) → i < length xs → i < length ys
+pub one_more : (os ps : List OriginTexts) (xs ys : List NotedSpan) (i : ℕ) (d : NotedSpan) → i < length xs → i < length ys
     → pointwise arrival_eq (arrivals_in os (drop i xs)) (arrivals_in ps (drop i ys))
     ≡ (arrival_eq (arrival_in os (get_or xs i d)) (arrival_in ps (get_or ys i d))
     && pointwise arrival_eq (arrivals_in os (drop (i + 1) xs)) (arrivals_in ps (drop (i + 1) ys)))
@@ -145,7 +145,7 @@ behind true rest is = is
 behind false rest is = refl
 
 -- lists of other lengths aren't the same
-pub other_lengths : (os ps : List SpanOrigin) (xs ys : List NotedSpan) → (length xs ≢ length ys)
+pub other_lengths : (os ps : List OriginTexts) (xs ys : List NotedSpan) → (length xs ≢ length ys)
     → pointwise arrival_eq (arrivals_in os xs) (arrivals_in ps ys) ≡ false
 other_lengths os ps [] [] differ = absurd (differ refl)
 other_lengths os ps [] (y ∷ ys) differ = refl
@@ -153,6 +153,6 @@ other_lengths os ps (x ∷ xs) [] differ = refl
 other_lengths os ps (x ∷ xs) (y ∷ ys) differ = behind (arrival_eq (arrival_in os x) (arrival_in ps y)) _ (other_lengths os ps xs ys (λ same. differ (ap suc same)))
 
 -- nothing is left at the end
-pub none_more : (os ps : List SpanOrigin) (xs ys : List NotedSpan) (i : ℕ) → length xs ≤ i → length ys ≤ i
+pub none_more : (os ps : List OriginTexts) (xs ys : List NotedSpan) (i : ℕ) → length xs ≤ i → length ys ≤ i
     → pointwise arrival_eq (arrivals_in os (drop i xs)) (arrivals_in ps (drop i ys)) ≡ true
 none_more os ps xs ys i short long = λ j. pointwise arrival_eq (arrivals_in os (drop_all i xs short j)) (arrivals_in ps (drop_all i ys long j))

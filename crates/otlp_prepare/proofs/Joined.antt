@@ -10,7 +10,7 @@ use Rattle.tail_policy.specs.Apart.{notes_of_texts}
 use Rattle.tail_policy.specs.Note.{note_of}
 use Rattle.tail_policy.specs.Parts.{resource_bits_of, with_resource, by_parts}
 use Rattle.tenant_rules.specs.Arrivals.{Arrival}
-use Rattle.otlp_prepare.specs.declared.noted.SpanOrigin.{SpanOrigin}
+use Rattle.otlp_prepare.specs.Origin.{OriginTexts}
 use Rattle.otlp_prepare.specs.declared.noted.NotedSpan.{NotedSpan}
 use Rattle.otlp_prepare.specs.Arrivals.{origin_at, arrivals_in}
 use Rattle.otlp_prepare.specs.Prepared.{IsReady, AreReady}
@@ -28,7 +28,7 @@ joined policies (part ∷ parts) own is =
     ap (λ (ns : List TraceNote). map both_parts (zip (part ∷ parts) ns)) is
     ∙ ap (λ (spans : List NotedSpan). noted policies part ∷ spans) (joined policies parts (map (own_note policies) parts) refl)
 
-ready : (policies : List PolicyData) (origins : List SpanOrigin) (part : UnnotedSpanData) → IsFound policies origins part
+ready : (policies : List PolicyData) (origins : List OriginTexts) (part : UnnotedSpanData) → IsFound policies origins part
     → IsReady policies origins (noted policies part)
 ready policies origins part is = record {
   note = notes_of_texts (note_of policies) (resource_bits_of policies) with_resource (by_parts policies) part.text (bytes_of (origin_at origins part.origin).resource) part.bits is.bits;
@@ -38,19 +38,19 @@ ready policies origins part is = record {
   short = is.short;
 }
 
-all_ready : (policies : List PolicyData) (origins : List SpanOrigin) (parts : List UnnotedSpanData) → AreFound policies origins parts
+all_ready : (policies : List PolicyData) (origins : List OriginTexts) (parts : List UnnotedSpanData) → AreFound policies origins parts
     → AreReady policies origins (map (noted policies) parts)
 all_ready policies origins parts are =
     every_mapped (IsFound policies origins) (IsReady policies origins) (noted policies) (λ part is. ready policies origins part is) parts are
 
 -- the spans that were noted are ready
-pub are_ready : (policies : List PolicyData) (origins : List SpanOrigin) (parts : List UnnotedSpanData) (spans : List NotedSpan)
+pub are_ready : (policies : List PolicyData) (origins : List OriginTexts) (parts : List UnnotedSpanData) (spans : List NotedSpan)
     → spans ≡ map (noted policies) parts → AreFound policies origins parts → AreReady policies origins spans
 are_ready policies origins parts spans is are =
     subst (AreReady policies origins) (sym is) (all_ready policies origins parts are)
 
 -- and have arrived as they were found
-pub noted_arrivals : (policies : List PolicyData) (origins : List SpanOrigin) (parts : List UnnotedSpanData)
+pub noted_arrivals : (policies : List PolicyData) (origins : List OriginTexts) (parts : List UnnotedSpanData)
     → arrivals_in origins (map (noted policies) parts) ≡ part_arrivals origins parts
 noted_arrivals policies origins [] = refl
 noted_arrivals policies origins (part ∷ parts) =
@@ -60,7 +60,7 @@ noted_arrivals policies origins (part ∷ parts) =
 abbrev pub IsShortArrival : Arrival → Type 0
 IsShortArrival arrival = IsShort arrival.text × IsShort (bytes_of arrival.origin.resource)
 
-pub short_arrivals : (policies : List PolicyData) (origins : List SpanOrigin) (parts : List UnnotedSpanData) → AreFound policies origins parts
+pub short_arrivals : (policies : List PolicyData) (origins : List OriginTexts) (parts : List UnnotedSpanData) → AreFound policies origins parts
     → AllByRecursion IsShortArrival (part_arrivals origins parts)
 short_arrivals policies origins parts are =
     every_mapped (IsFound policies origins) IsShortArrival (part_arrival origins) (λ part is. (is.short, is.around)) parts are

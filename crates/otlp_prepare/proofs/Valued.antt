@@ -12,7 +12,7 @@ use Rattle.span_pool.specs.Stored.{Origin as OriginData}
 use Rattle.tail_settings.specs.Policy.{PolicyData}
 use Rattle.tail_settings.specs.Section.{SectionData}
 use Rattle.tenant_rules.specs.Arrivals.{Arrival}
-use Rattle.otlp_prepare.specs.declared.noted.SpanOrigin.{SpanOrigin}
+use Rattle.otlp_prepare.specs.Origin.{OriginTexts}
 use Rattle.otlp_prepare.specs.declared.noted.NotedSpan.{NotedSpan}
 use Rattle.otlp_prepare.specs.Arrivals.{origin_of, arrival_of, arrival_with, arrivals_of_scope, arrivals_of_resource, arrivals_of, arrivals_in}
 use Rattle.otlp_prepare.specs.Prepared.{PreparedData, prepared_of}
@@ -154,7 +154,7 @@ body_arrives law v typed nested short =
     all ∙ groups_arrive law v.resource_spans typed.resource_spans nested.resource_spans (subst (AllByRecursion IsShortArrival) all short)
 
 -- the spans that were found among the parts of a value, with their notes, are those that arrive
-pub all_arrive : (law : AllTold) (v : RequestData) (body : BodyTexts) (policies : List PolicyData) (origins : List SpanOrigin)
+pub all_arrive : (law : AllTold) (v : RequestData) (body : BodyTexts) (policies : List PolicyData) (origins : List OriginTexts)
     → (parts : List UnnotedSpanData) (spans : List NotedSpan) → TypedRequest v → NestedRequest v → body ≡ texts_of v
     → AreFound policies origins parts → part_arrivals origins parts ≡ arrivals_in_body body
     → spans ≡ map (noted policies) parts → arrivals_in origins spans ≡ arrivals_of v
@@ -165,7 +165,7 @@ all_arrive law v body policies origins parts spans typed nested same are found i
     ∙ (noted_arrivals policies origins parts ∙ (texts ∙ body_arrives law v typed nested short))
 
 -- so what is prepared of them is what the value is made ready as
-pub all_prepared : (law : AllTold) (v : RequestData) (body : BodyTexts) (policies given : List PolicyData) (origins : List SpanOrigin)
+pub all_prepared : (law : AllTold) (v : RequestData) (body : BodyTexts) (policies given : List PolicyData) (origins : List OriginTexts)
     → (parts : List UnnotedSpanData) (spans : List NotedSpan) (tenant : ℕ) (section : SectionData) (result : PreparedData)
     → TypedRequest v → NestedRequest v → body ≡ texts_of v → AreFound policies origins parts
     → part_arrivals origins parts ≡ arrivals_in_body body → spans ≡ map (noted policies) parts

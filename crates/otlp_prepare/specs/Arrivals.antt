@@ -7,7 +7,7 @@ use Rattle.span_view.specs.Facts.{facts}
 use Rattle.span_view.specs.Reading.{facts_of}
 use Rattle.span_pool.specs.Stored.{Origin as OriginData, bytes_of}
 use Rattle.tenant_rules.specs.Arrivals.{Arrival}
-use Rattle.otlp_prepare.specs.declared.noted.SpanOrigin.{SpanOrigin}
+use Rattle.otlp_prepare.specs.Origin.{OriginTexts}
 use Rattle.otlp_prepare.specs.declared.noted.NotedSpan.{NotedSpan}
 
 -- ---- of a body's value
@@ -41,7 +41,7 @@ arrivals_of request = flat_map arrivals_of_resource request.resource_spans
 -- ---- of spans that are ready
 
 -- what stands round a span; a URL that is missing is empty
-abbrev pub origin_view : SpanOrigin → OriginData
+abbrev pub origin_view : OriginTexts → OriginData
 origin_view o = record {
   resource = o.resource;
   resource_schema_url = bytes_of o.resource_schema_url;
@@ -50,11 +50,11 @@ origin_view o = record {
 }
 
 -- nothing stands round a span
-abbrev pub no_origin : SpanOrigin
+abbrev pub no_origin : OriginTexts
 no_origin = record { resource = None; resource_schema_url = None; scope = None; scope_schema_url = None }
 
 -- the origin at an index, and one of no texts where there is none
-abbrev pub origin_at : List SpanOrigin → ℕ → OriginData
+abbrev pub origin_at : List OriginTexts → ℕ → OriginData
 origin_at origins index = origin_view (slice_index_or origins index no_origin)
 
 -- a span of this origin and text, by its texts
@@ -62,9 +62,9 @@ abbrev pub arrival_with : OriginData → List ℕ → Arrival
 arrival_with origin text = record { facts = facts_of text (bytes_of origin.resource); text = text; origin = origin }
 
 -- what arrived of a span that is ready
-abbrev pub arrival_in : List SpanOrigin → NotedSpan → Arrival
+abbrev pub arrival_in : List OriginTexts → NotedSpan → Arrival
 arrival_in origins span = arrival_with (origin_at origins span.origin) span.text
 
 -- what arrived of several
-abbrev pub arrivals_in : List SpanOrigin → List NotedSpan → List Arrival
+abbrev pub arrivals_in : List OriginTexts → List NotedSpan → List Arrival
 arrivals_in origins spans = map (arrival_in origins) spans

@@ -18,7 +18,7 @@ use Rattle.tail_policy.specs.declared.note.TraceNote.{TraceNote}
 use Rattle.tail_policy.specs.Note.{note_of}
 use Rattle.tail_policy.specs.Parts.{resource_bits_of, with_resource}
 use Rattle.tenant_rules.specs.Arrivals.{Arrival, is_valid}
-use Rattle.otlp_prepare.specs.declared.noted.SpanOrigin.{SpanOrigin}
+use Rattle.otlp_prepare.specs.Origin.{OriginTexts}
 use Rattle.otlp_prepare.specs.declared.noted.NotedSpan.{NotedSpan}
 use Rattle.otlp_prepare.specs.Arrivals.{arrival_with, origin_at}
 
@@ -72,11 +72,11 @@ abbrev pub part_with : ResourceBits → ℕ → List ℕ → UnnotedSpanData
 part_with bits origin text = record { trace = (facts_of text []).trace_id; text = text; origin = origin; bits = bits }
 
 -- what arrived of a span
-abbrev pub part_arrival : List SpanOrigin → UnnotedSpanData → Arrival
+abbrev pub part_arrival : List OriginTexts → UnnotedSpanData → Arrival
 part_arrival origins part = arrival_with (origin_at origins part.origin) part.text
 
 -- what arrived of several
-abbrev pub part_arrivals : List SpanOrigin → List UnnotedSpanData → List Arrival
+abbrev pub part_arrivals : List OriginTexts → List UnnotedSpanData → List Arrival
 part_arrivals origins parts = map (part_arrival origins) parts
 
 -- the note of a span by itself
@@ -101,7 +101,7 @@ abbrev pub bits_in : List PolicyData → Option (List ℕ) → ResourceBits
 bits_in policies resource = resource_bits_of policies (facts_of [] (bytes_of resource)).attributes
 
 -- a span is valid, its origin is one of these, and it has what its resource tells
-pub record IsFound (policies : List PolicyData) (origins : List SpanOrigin) (part : UnnotedSpanData) : Type 0 where
+pub record IsFound (policies : List PolicyData) (origins : List OriginTexts) (part : UnnotedSpanData) : Type 0 where
   pub trace : part.trace ≡ (facts_of part.text []).trace_id
   pub valid : is_valid (part_arrival origins part) ≡ true
   pub bits : part.bits ≡ bits_in policies (origin_at origins part.origin).resource
@@ -110,13 +110,13 @@ pub record IsFound (policies : List PolicyData) (origins : List SpanOrigin) (par
   pub around : IsShort (bytes_of (origin_at origins part.origin).resource)
 
 -- each of them is
-abbrev pub AreFound : List PolicyData → List SpanOrigin → List UnnotedSpanData → Type 0
+abbrev pub AreFound : List PolicyData → List OriginTexts → List UnnotedSpanData → Type 0
 AreFound policies origins parts = AllByRecursion (IsFound policies origins) parts
 
 -- these arrivals were found behind those that had been, with no more origins than spans
-pub record Adds (policies : List PolicyData) (arrivals : List Arrival) (origins : List SpanOrigin)
+pub record Adds (policies : List PolicyData) (arrivals : List Arrival) (origins : List OriginTexts)
     (parts : List UnnotedSpanData)
-    (origins' : List SpanOrigin) (parts' : List UnnotedSpanData) : Type 0 where
+    (origins' : List OriginTexts) (parts' : List UnnotedSpanData) : Type 0 where
   pub found : AreFound policies origins' parts'
   pub whole : part_arrivals origins' parts' ≡ part_arrivals origins parts ++ arrivals
   pub sparing : length origins' + length parts ≤ length origins + length parts'
@@ -164,8 +164,8 @@ pub record IsAround (policies : List PolicyData) (resource : Option (List ℕ)) 
 -- whatever the policies that are told these bits of the resource: these arrivals of it were found behind those that had
 -- been
 abbrev pub AddsAround : Option (List ℕ) → ResourceBits → List Arrival
-    → (origins : List SpanOrigin) → (parts : List UnnotedSpanData)
-    → (origins' : List SpanOrigin) → (parts' : List UnnotedSpanData) → Type 0
+    → (origins : List OriginTexts) → (parts : List UnnotedSpanData)
+    → (origins' : List OriginTexts) → (parts' : List UnnotedSpanData) → Type 0
 AddsAround resource bits arrivals origins parts origins' parts' = (policies : List PolicyData)
     → IsAround policies resource bits → AreFound policies origins parts
     → Adds policies arrivals origins parts origins' parts'

@@ -10,7 +10,7 @@ use Rattle.tail_settings.specs.Policy.{PolicyData}
 use Rattle.tail_settings.specs.Section.{SectionData}
 use Rattle.tail_policy.specs.Note.{note_of}
 use Rattle.tenant_rules.specs.Arrivals.{Arrival, is_valid, trace_of}
-use Rattle.otlp_prepare.specs.declared.noted.SpanOrigin.{SpanOrigin}
+use Rattle.otlp_prepare.specs.Origin.{OriginTexts}
 use Rattle.otlp_prepare.specs.declared.noted.NotedSpan.{NotedSpan}
 use Rattle.otlp_prepare.specs.declared.refusal.Refusal.{Refusal}
 use Rattle.otlp_prepare.specs.declared.refusal.Refusal.TheVariants as refusal
@@ -38,7 +38,7 @@ abbrev pub IsPrepared : ℕ → SectionData → List ℕ → PreparedData → Ty
 IsPrepared tenant section body prepared = (v : RequestData) × IsValue body v × (prepared ≡ prepared_of tenant section v)
 
 -- a span is valid, its origin is one of these, and its note is that of the span with its resource for these policies
-pub record IsReady (policies : List PolicyData) (origins : List SpanOrigin) (span : NotedSpan) : Type 0 where
+pub record IsReady (policies : List PolicyData) (origins : List OriginTexts) (span : NotedSpan) : Type 0 where
   pub note : span.note ≡ note_of policies (arrival_in origins span).facts
   pub trace : span.trace ≡ trace_of (arrival_in origins span)
   pub valid : is_valid (arrival_in origins span) ≡ true
@@ -46,7 +46,7 @@ pub record IsReady (policies : List PolicyData) (origins : List SpanOrigin) (spa
   pub short : length span.text < 2 ^ 64
 
 -- each of them is
-abbrev pub AreReady : List PolicyData → List SpanOrigin → List NotedSpan → Type 0
+abbrev pub AreReady : List PolicyData → List OriginTexts → List NotedSpan → Type 0
 AreReady policies origins spans = AllByRecursion (IsReady policies origins) spans
 
 -- want of memory says nothing of the body

@@ -36,19 +36,21 @@ fn are_bytes(text: &[u8])
     prove!(text.iter().all(|byte| *byte <= u8::MAX));
 }
 
-/// The parts of a body, whose texts are those of messages that were read.
-fn read_body(alloc: Global, body: &TextSlice) -> Result<BodyParts, ReadFault>
-    ensures value { IfOk result (λ parts. ArePartsOf body.now (body_parts_view parts)) }
+/// The parts of a body, whose texts are those of messages that were read. The body becomes one block that they share,
+/// and is let go of where none of them is a slice of it.
+fn read_body(alloc: Global, body: Bytes) -> Result<BodyParts, ReadFault>
+    ensures value { IfOk result (λ parts. ArePartsOf body (body_parts_view parts)) }
     ensures read { IfOk result (λ parts. AreRead (body_parts_view parts)) }
-    ensures typed { (v : RequestData) → IsValue body.now v → TypedRequest v }
-    ensures nested { (v : RequestData) → IsValue body.now v → NestedRequest v }
-    ensures only { (v : RequestData) → IsValue body.now v
+    ensures typed { (v : RequestData) → IsValue body v → TypedRequest v }
+    ensures nested { (v : RequestData) → IsValue body v → NestedRequest v }
+    ensures only { (v : RequestData) → IsValue body v
         → Gives body_parts_view result (Ok (texts_of v)) }
-    ensures fault { IfErr result (λ fault. fault ≢ ReadFault.OutOfMemory → IsFault body.now fault) }
+    ensures fault { IfErr result (λ fault. fault ≢ ReadFault.OutOfMemory → IsFault body fault) }
 {
     are_bytes(body.as_slice());
     values_are_sound();
-    read_parts(alloc, body)
+    let block = TextSlice::of(alloc, body)?;
+    read_parts(alloc, &block)
 }
 
 /// What is prepared of a body that was read.
@@ -73,30 +75,6 @@ fn prepare_parts<R: Threads + Sync>(
     let shared = section.tail_sampling.policies.clone()?;
     read_spans_are_viewed();
     Ok(Prepared::of(tenant, shared, found.origins, spans, invalid))
-}
-
-/// What is prepared of a body, in one block that its texts share.
-fn prepare_text<R: Threads + Sync>(
-    rt: &R,
-    alloc: Global,
-    tenant: u32,
-    section: &Section,
-    body: &TextSlice,
-    parts: u32,
-) -> Result<Prepared, Refusal>
-    requires { (0 < parts) × (parts ≤ 16) }
-    ensures value { IfOk result (λ prepared. IsPrepared tenant (section_view section.now) body.now
-        prepared) }
-    ensures only { (v : RequestData) → IsValue body.now v →
-        MatchResult result (λ prepared. prepared ≡
-        prepared_of tenant (section_view section.now) v)
-        (λ refused. refused ≡ refusal.OutOfMemory) }
-    ensures bad { (fault : ReadFault) → IfErr result
-        (λ refused. refused ≡ refusal.Bad fault → IsFault body.now fault) }
-{
-    let read = read_body(alloc, body)?;
-    let prepared = prepare_parts(rt, alloc, tenant, section, read, parts)?;
-    Ok(prepared)
 }
 
 /// Reads a body, a request in protobuf, for the tenant with this number and section, and makes the notes of its spans
@@ -127,6 +105,7 @@ pub fn prepare<R: Threads + Sync>(
     ensures bad { (fault : ReadFault) → IfErr result
         (λ refused. refused ≡ refusal.Bad fault → IsFault body fault) }
 {
-    let text = TextSlice::of(alloc, body)?;
-    prepare_text(rt, alloc, tenant, section, &text, parts)
+    let read = read_body(alloc, body)?;
+    let prepared = prepare_parts(rt, alloc, tenant, section, read, parts)?;
+    Ok(prepared)
 }

@@ -9,7 +9,6 @@ ghost use Rattle.otlp_prepare.specs.Arrivals.{origin_view};
 ghost use Rattle.otlp_prepare.specs.BodySpans.{IsValidRead, IsScopeRead, IsResourceRead, IsGroupRead, AreRead, IsAround, part_with, AreFound, Adds, part_arrivals, arrivals_in_resource, arrivals_in_body, AddsAround, arrivals_around, arrivals_around_all};
 
 use crate::noted::SpanOrigin;
-use crate::origin_text::OriginText;
 use crate::reversed::first_of;
 use crate::unnoted::UnnotedSpan;
 use otlp_parts::{BodyParts, PartText, ResourceParts, ScopeList, ScopeParts, SpanTexts};
@@ -29,13 +28,15 @@ pub struct BodySpans {
     pub origins: Vec<SpanOrigin>,
     /// The spans, each with the index of its origin.
     pub parts: Vec<UnnotedSpan>,
+    // Stands in the place of texts that are missing.
+    other: SharedBytes,
 }
 
 /// What stands round the spans of a resource, but for their scope.
 #[derive(Drop)]
 struct ResourceOrigin {
-    resource: OriginText,
-    schema_url: OriginText,
+    resource: Option<SharedBytes>,
+    schema_url: Option<SharedBytes>,
     // What the resource tells the policies.
     bits: ResourceBits,
 }
@@ -45,31 +46,39 @@ struct ResourceOrigin {
 fn shared_text(
     alloc: Global,
     bytes: &TextSlice,
-    last: Option<&OriginText>,
-) -> Result<OriginText, AllocError>
-    ensures { IfOk result (λ text. text ≡ Some bytes.now) }
+    last: Option<&SharedBytes>,
+) -> Result<SharedBytes, AllocError>
+    ensures { IfOk result (λ text. text ≡ bytes.now) }
 {
     if let Some(last) = last {
-        if last.has(bytes) {
+        if last.bytes() == bytes {
             return last.shared();
         }
     }
-    OriginText::of(alloc, SharedBytes::of(bytes.shared()?))
+    SharedBytes::of(alloc, bytes.shared()?)
 }
 
 /// The same text with its digest, where there is one.
 fn text_of(
     alloc: Global,
-    missing: &OriginText,
     text: &PartText,
-    last: Option<&OriginText>,
-) -> Result<OriginText, AllocError>
-    requires { missing.now ≡ None }
+    last: Option<&SharedBytes>,
+) -> Result<Option<SharedBytes>, AllocError>
     ensures { IfOk result (λ same. same ≡ text.now) }
 {
     match text.as_ref() {
-        Some(bytes) => shared_text(alloc, bytes, last),
-        None => missing.shared(),
+        Some(bytes) => Ok(Some(shared_text(alloc, bytes, last)?)),
+        None => Ok(None),
+    }
+}
+
+/// The same text, where there is one.
+fn again(text: &Option<SharedBytes>) -> Result<Option<SharedBytes>, AllocError>
+    ensures { IfOk result (λ same. same ≡ text.now) }
+{
+    match text {
+        Some(text) => Ok(Some(text.shared()?)),
+        None => Ok(None),
     }
 }
 
@@ -100,26 +109,31 @@ fn resource_told(
 /// What stands round the spans of a resource, likewise.
 fn outer_of(
     alloc: Global,
-    missing: &OriginText,
     resource: &PartText,
     schema_url: &PartText,
     bits: ResourceBits,
     last: Option<&SpanOrigin>,
 ) -> Result<ResourceOrigin, AllocError>
-    requires { missing.now ≡ None }
     ensures { IfOk result (λ outer. (outer.resource ≡ resource.now)
         × (outer.schema_url ≡ schema_url.now) × (outer.bits ≡ bits)) }
 {
     Ok(ResourceOrigin {
-        resource: text_of(alloc, missing, resource, last.map(|last| &last.resource))?,
+        resource: text_of(alloc, resource, last.and_then(|last| last.resource()))?,
         schema_url: text_of(
             alloc,
-            missing,
             schema_url,
-            last.map(|last| &last.resource_schema_url),
+            last.and_then(|last| last.resource_schema_url()),
         )?,
         bits,
     })
+}
+
+/// Whether it has this scope.
+fn has_scope(origin: &SpanOrigin, scope: &TextSlice) -> bool {
+    match origin.scope() {
+        Some(text) => text.bytes() == scope,
+        None => false,
+    }
 }
 
 /// The latest of the last few origins that has this scope, or else the last one. Where resources have the same scopes
@@ -128,7 +142,7 @@ fn latest_like<'a>(origins: &'a [SpanOrigin], scope: &PartText) -> Option<&'a Sp
     if let Some(scope) = scope.as_ref() {
         let from = origins.len().saturating_sub(LOOKED_AT);
         for origin in origins[from..].iter().rev() {
-            if origin.scope.has(scope) {
+            if has_scope(origin, scope) {
                 return Some(origin);
             }
         }
@@ -140,13 +154,12 @@ fn latest_like<'a>(origins: &'a [SpanOrigin], scope: &PartText) -> Option<&'a Sp
 /// with it: resources and scopes come again and again.
 fn origin_of(
     alloc: Global,
-    missing: &OriginText,
+    other: &SharedBytes,
     outer: &ResourceOrigin,
     scope: &PartText,
     schema_url: &PartText,
     last: Option<&SpanOrigin>,
 ) -> Result<SpanOrigin, AllocError>
-    requires { missing.now ≡ None }
     ensures { IfOk result (λ origin. origin_view origin ≡
         record {
           resource = outer.now.resource;
@@ -155,17 +168,21 @@ fn origin_of(
           scope_schema_url = bytes_of schema_url.now;
         }) }
 {
-    Ok(SpanOrigin {
-        resource: outer.resource.shared()?,
-        resource_schema_url: outer.schema_url.shared()?,
-        scope: text_of(alloc, missing, scope, last.map(|last| &last.scope))?,
-        scope_schema_url: text_of(
-            alloc,
-            missing,
-            schema_url,
-            last.map(|last| &last.scope_schema_url),
-        )?,
-    })
+    let resource = again(&outer.resource)?;
+    let resource_schema_url = again(&outer.schema_url)?;
+    let scope = text_of(alloc, scope, last.and_then(|last| last.scope()))?;
+    let scope_schema_url = text_of(
+        alloc,
+        schema_url,
+        last.and_then(|last| last.scope_schema_url()),
+    )?;
+    SpanOrigin::of(
+        other,
+        resource,
+        resource_schema_url,
+        scope,
+        scope_schema_url,
+    )
 }
 
 /// Appends spans of one origin.
@@ -212,11 +229,9 @@ fn add_texts(
 fn add_scope(
     alloc: Global,
     found: &mut BodySpans,
-    missing: &OriginText,
     outer: &ResourceOrigin,
     scope: ScopeParts,
 ) -> Result<(), AllocError>
-    requires missing { missing.now ≡ None }
     requires read { IsScopeRead (scope_parts_view scope) }
     ensures { OnOk result (AddsAround outer.now.resource outer.now.bits
         (arrivals_around outer.now.resource outer.now.schema_url (scope_parts_view scope))
@@ -229,7 +244,7 @@ fn add_scope(
     read_spans_are_viewed();
     let origin = origin_of(
         alloc,
-        missing,
+        &found.other,
         outer,
         &scope.scope,
         &scope.schema_url,
@@ -245,11 +260,9 @@ fn add_scope(
 fn add_scopes(
     alloc: Global,
     found: &mut BodySpans,
-    missing: &OriginText,
     outer: &ResourceOrigin,
     scopes: Vec<ScopeParts>,
 ) -> Result<(), AllocError>
-    requires missing { missing.now ≡ None }
     requires read { AllByRecursion IsScopeRead (map scope_parts_view scopes.items) }
     ensures { OnOk result (AddsAround outer.now.resource outer.now.bits
         (arrivals_around_all outer.now.resource outer.now.schema_url scopes.items)
@@ -257,7 +270,7 @@ fn add_scopes(
         found.new.parts.items) }
 {
     for scope in scopes {
-        add_scope(alloc, found, missing, outer, scope)?;
+        add_scope(alloc, found, outer, scope)?;
     }
     Ok(())
 }
@@ -267,10 +280,8 @@ fn add_resource(
     alloc: Global,
     policies: &TenantPolicies<'_>,
     found: &mut BodySpans,
-    missing: &OriginText,
     group: ResourceParts,
 ) -> Result<(), AllocError>
-    requires missing { missing.now ≡ None }
     requires read { IsGroupRead (resource_parts_view group) }
     requires found { AreFound policies.now found.old.origins.items found.old.parts.items }
     ensures { OnOk result (Adds policies.now (arrivals_in_resource (resource_parts_view group))
@@ -283,17 +294,10 @@ fn add_resource(
         scopes,
     } = group;
     let bits = resource_told(policies, &resource)?;
-    let outer = outer_of(
-        alloc,
-        missing,
-        &resource,
-        &schema_url,
-        bits,
-        found.origins.last(),
-    )?;
+    let outer = outer_of(alloc, &resource, &schema_url, bits, found.origins.last())?;
     match scopes {
-        ScopeList::One(scope) => add_scope(alloc, found, missing, &outer, scope),
-        ScopeList::More(scopes) => add_scopes(alloc, found, missing, &outer, scopes),
+        ScopeList::One(scope) => add_scope(alloc, found, &outer, scope),
+        ScopeList::More(scopes) => add_scopes(alloc, found, &outer, scopes),
     }
 }
 
@@ -302,10 +306,8 @@ fn add_resources(
     alloc: Global,
     policies: &TenantPolicies<'_>,
     found: &mut BodySpans,
-    missing: &OriginText,
     groups: Vec<ResourceParts>,
 ) -> Result<(), AllocError>
-    requires missing { missing.now ≡ None }
     requires read { AllByRecursion IsGroupRead (map resource_parts_view groups.items) }
     requires found { AreFound policies.now found.old.origins.items found.old.parts.items }
     ensures { OnOk result (Adds policies.now
@@ -314,7 +316,7 @@ fn add_resources(
         found.new.parts.items) }
 {
     for group in groups {
-        add_resource(alloc, policies, found, missing, group)?;
+        add_resource(alloc, policies, found, group)?;
     }
     Ok(())
 }
@@ -336,16 +338,16 @@ pub fn found_in(
     ensures sparing { IfOk result (λ found. length found.origins.items
         ≤ length found.parts.items) }
 {
-    let missing = OriginText::none(alloc)?;
     let mut found = BodySpans {
         origins: Vec::new(alloc),
         parts: Vec::new(alloc),
+        other: SharedBytes::of(alloc, TextSlice::copy_from_slice(alloc, &[])?)?,
     };
     let mut left = body.resources;
     left.reverse();
     'pieces: while !left.is_empty() {
         let now = first_of(&mut left)?;
-        add_resources(alloc, policies, &mut found, &missing, now)?;
+        add_resources(alloc, policies, &mut found, now)?;
     }
     Ok(found)
 }

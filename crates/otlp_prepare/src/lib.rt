@@ -6,8 +6,8 @@
 //! with one note a valid span; a body is bad exactly where it has no value.
 //!
 //! A [`Prepared`] keeps a span as a [`NotedSpan`], its own text with the index of an [`SpanOrigin`]: the texts of its
-//! resource, its scope and their schemas, each an [`OriginText`] with its digest (`text_pool`), once for all spans of
-//! one scope of one resource. Spans that aren't valid are counted, and nothing is kept of them.
+//! resource, its scope and their schemas, each with its digest (`text_pool`), once for all spans of one scope of one
+//! resource. Spans that aren't valid are counted, and nothing is kept of them.
 //!
 //! It stands on `otlp_parts`, `span_pool`, `text_pool`, `text_slice`, `tail_settings`, `tail_policy` and `tail_notes`
 //! and those below them, on `tenant_rules` for what arrives of a span, and on the kit's `bytes`. The rules are those of
@@ -18,7 +18,6 @@ mod body;
 mod body_spans;
 mod noted;
 mod notes;
-mod origin_text;
 mod prepared;
 mod refusal;
 mod reversed;
@@ -26,6 +25,5 @@ mod unnoted;
 
 pub use body::prepare;
 pub use noted::{NotedSpan, SpanOrigin};
-pub use origin_text::OriginText;
 pub use prepared::{Prepared, equal_bodies_are_the_same};
 pub use refusal::Refusal;

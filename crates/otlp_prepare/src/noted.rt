@@ -1,23 +1,124 @@
 //! Spans that are ready, and what stands round them.
 
-ghost use Rattle.std.specs.Prelude.{◌≡◌};
+ghost use Rattle.std.specs.Prelude.{◌≡◌, IfOk, option_copied};
 ghost use Rattle.span_pool.specs.Stored.{bytes_of, same_bytes, same_text};
+ghost use Rattle.otlp_prepare.specs.Origin.{text_if};
 
-use crate::origin_text::OriginText;
+use std::alloc::AllocError;
+use std::marker::Model;
 use tail_policy::TraceNote;
+use text_pool::SharedBytes;
 use text_slice::TextSlice;
 
-/// The texts that the spans of one scope of one resource share: canonical, each with its digest.
+/// The texts that the spans of one scope of one resource share: canonical, each with its digest. It takes 40 bytes, and
+/// whoever shares a text takes no more.
 #[derive(Debug, Drop)]
 pub struct SpanOrigin {
+    // Where one is missing, any other stands in its place.
+    resource: SharedBytes,
+    resource_schema_url: SharedBytes,
+    scope: SharedBytes,
+    scope_schema_url: SharedBytes,
+    // Which of them are there.
+    has_resource: bool,
+    has_resource_schema_url: bool,
+    has_scope: bool,
+    has_scope_schema_url: bool,
+}
+
+impl Model for SpanOrigin {
+    ghost use Rattle.otlp_prepare.specs.Origin.{OriginTexts, text_if};
+
+    ghost Value = { OriginTexts };
+
+    ghost view = { λ o. record {
+      resource = text_if o.has_resource o.resource;
+      resource_schema_url = text_if o.has_resource_schema_url o.resource_schema_url;
+      scope = text_if o.has_scope o.scope;
+      scope_schema_url = text_if o.has_scope_schema_url o.scope_schema_url;
+    } };
+}
+
+/// This text, which is there, or another one in its place, where it isn't.
+fn text_or(
+    text: Option<SharedBytes>,
+    other: &SharedBytes,
+) -> Result<(SharedBytes, bool), AllocError>
+    ensures { IfOk result (λ kept. text_if kept.1 kept.0 ≡ text) }
+{
+    match text {
+        Some(text) => Ok((text, true)),
+        None => Ok((other.shared()?, false)),
+    }
+}
+
+/// The text, where it is there.
+fn text_if(there: bool, text: &SharedBytes) -> Option<&SharedBytes>
+    ensures { option_copied result ≡ text_if there text.now }
+{
+    if there { Some(text) } else { None }
+}
+
+impl SpanOrigin {
+    /// These texts, as far as they are there. Another one stands in the place of those that are missing.
+    pub(crate) fn of(
+        other: &SharedBytes,
+        resource: Option<SharedBytes>,
+        resource_schema_url: Option<SharedBytes>,
+        scope: Option<SharedBytes>,
+        scope_schema_url: Option<SharedBytes>,
+    ) -> Result<SpanOrigin, AllocError>
+        ensures { IfOk result (λ origin. origin ≡
+            record {
+              resource = resource;
+              resource_schema_url = resource_schema_url;
+              scope = scope;
+              scope_schema_url = scope_schema_url;
+            }) }
+    {
+        let (resource, has_resource) = text_or(resource, other)?;
+        let (resource_schema_url, has_resource_schema_url) = text_or(resource_schema_url, other)?;
+        let (scope, has_scope) = text_or(scope, other)?;
+        let (scope_schema_url, has_scope_schema_url) = text_or(scope_schema_url, other)?;
+        Ok(SpanOrigin {
+            resource,
+            resource_schema_url,
+            scope,
+            scope_schema_url,
+            has_resource,
+            has_resource_schema_url,
+            has_scope,
+            has_scope_schema_url,
+        })
+    }
+
     /// The resource's.
-    pub resource: OriginText,
+    pub fn resource(&self) -> Option<&SharedBytes>
+        ensures value { option_copied result ≡ self.now.resource }
+    {
+        text_if(self.has_resource, &self.resource)
+    }
+
     /// The URL of the resource's schema, where that isn't empty.
-    pub resource_schema_url: OriginText,
+    pub fn resource_schema_url(&self) -> Option<&SharedBytes>
+        ensures value { option_copied result ≡ self.now.resource_schema_url }
+    {
+        text_if(self.has_resource_schema_url, &self.resource_schema_url)
+    }
+
     /// The scope's.
-    pub scope: OriginText,
+    pub fn scope(&self) -> Option<&SharedBytes>
+        ensures value { option_copied result ≡ self.now.scope }
+    {
+        text_if(self.has_scope, &self.scope)
+    }
+
     /// The URL of the scope's schema, where that isn't empty.
-    pub scope_schema_url: OriginText,
+    pub fn scope_schema_url(&self) -> Option<&SharedBytes>
+        ensures value { option_copied result ≡ self.now.scope_schema_url }
+    {
+        text_if(self.has_scope_schema_url, &self.scope_schema_url)
+    }
 }
 
 /// A valid span with what the tenant's policies keep of it.
@@ -34,10 +135,10 @@ pub struct NotedSpan {
 }
 
 /// Whether both are the same text, or missing. Digests are looked at first.
-fn is_same_text(one: &OriginText, other: &OriginText) -> bool
-    ensures { result ≡ same_text one.now other.now }
+fn is_same_text(one: Option<&SharedBytes>, other: Option<&SharedBytes>) -> bool
+    ensures { result ≡ same_text (option_copied one.entry) (option_copied other.entry) }
 {
-    match (one.as_ref(), other.as_ref()) {
+    match (one, other) {
         (Some(one), Some(other)) => one.is_same(other),
         (None, None) => true,
         _ => false,
@@ -45,10 +146,11 @@ fn is_same_text(one: &OriginText, other: &OriginText) -> bool
 }
 
 /// Whether both are the same URL, which is empty where it is missing.
-fn is_same_url(one: &OriginText, other: &OriginText) -> bool
-    ensures { result ≡ same_bytes (bytes_of one.now) (bytes_of other.now) }
+fn is_same_url(one: Option<&SharedBytes>, other: Option<&SharedBytes>) -> bool
+    ensures { result ≡ same_bytes (bytes_of (option_copied one.entry))
+        (bytes_of (option_copied other.entry)) }
 {
-    match (one.as_ref(), other.as_ref()) {
+    match (one, other) {
         (Some(one), Some(other)) => one.is_same(other),
         (Some(url), None) | (None, Some(url)) => url.bytes().is_empty(),
         (None, None) => true,
@@ -63,9 +165,9 @@ impl PartialEq for SpanOrigin {
     ghost laws = { same_origin_laws };
 
     fn eq(&self, other: &SpanOrigin) -> bool {
-        is_same_text(&self.resource, &other.resource)
-            && is_same_url(&self.resource_schema_url, &other.resource_schema_url)
-            && is_same_text(&self.scope, &other.scope)
-            && is_same_url(&self.scope_schema_url, &other.scope_schema_url)
+        is_same_text(self.resource(), other.resource())
+            && is_same_url(self.resource_schema_url(), other.resource_schema_url())
+            && is_same_text(self.scope(), other.scope())
+            && is_same_url(self.scope_schema_url(), other.scope_schema_url())
     }
 }

@@ -125,7 +125,7 @@ fn policies_are_shared_and_not_copied(rt: HostRuntime) -> Result<(), Fail> {
 }
 
 #[test]
-fn a_span_that_is_ready_has_64_bytes_and_an_origin_32(rt: HostRuntime) {
+fn a_span_that_is_ready_has_64_bytes_and_an_origin_40(rt: HostRuntime) {
     assert!(rt; size_of::<NotedSpan>() == 64);
-    assert!(rt; size_of::<SpanOrigin>() == 32);
+    assert!(rt; size_of::<SpanOrigin>() == 40);
 }

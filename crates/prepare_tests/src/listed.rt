@@ -3,11 +3,12 @@
 ghost use Rattle.std.specs.Prelude.{◌<◌, ◌≤◌};
 
 use bytes::Bytes;
-use otlp_prepare::{NotedSpan, OriginText, Prepared, Refusal, SpanOrigin, prepare};
+use otlp_prepare::{NotedSpan, Prepared, Refusal, SpanOrigin, prepare};
 use std::alloc::Global;
 use std::test::Fail;
 use std::thread::Threads;
 use tail_settings::Section;
+use text_pool::SharedBytes;
 
 /// The tenant's number.
 pub const TENANT: u32 = 7;
@@ -28,18 +29,18 @@ fn put_some(alloc: Global, out: &mut String, what: &str, bytes: Option<&[u8]>) -
     }
 }
 
-fn text_bytes(text: &OriginText) -> Option<&[u8]> {
-    match text.as_ref() {
+fn text_bytes(text: Option<&SharedBytes>) -> Option<&[u8]> {
+    match text {
         Some(text) => Some(text.bytes().as_slice()),
         None => None,
     }
 }
 
 fn put_origin(alloc: Global, out: &mut String, origin: &SpanOrigin) -> Result<(), Fail> {
-    put_some(alloc, out, "resource ", text_bytes(&origin.resource))?;
-    put_some(alloc, out, "of ", text_bytes(&origin.resource_schema_url))?;
-    put_some(alloc, out, "scope ", text_bytes(&origin.scope))?;
-    put_some(alloc, out, "in ", text_bytes(&origin.scope_schema_url))
+    put_some(alloc, out, "resource ", text_bytes(origin.resource()))?;
+    put_some(alloc, out, "of ", text_bytes(origin.resource_schema_url()))?;
+    put_some(alloc, out, "scope ", text_bytes(origin.scope()))?;
+    put_some(alloc, out, "in ", text_bytes(origin.scope_schema_url()))
 }
 
 fn put_span(

@@ -22,7 +22,7 @@ fn text_of(alloc: Global, name: &str) -> Result<SharedBytes, AllocError> {
         "v" => b"v",
         _ => b"",
     };
-    Ok(SharedBytes::of(TextSlice::copy_from_slice(alloc, bytes)?))
+    SharedBytes::of(alloc, TextSlice::copy_from_slice(alloc, bytes)?)
 }
 
 /// The key of a tenant's text: of one that it has, of another tenant's, of none; or no key.
@@ -31,7 +31,7 @@ fn key(
     pool: &mut TextPool,
     owner: u32,
     name: &str,
-) -> Result<Option<usize>, AllocError> {
+) -> Result<Option<u32>, AllocError> {
     match name {
         "-" => Ok(None),
         "others" => Ok(Some(pool.hold(9, text_of(alloc, "one")?)?)),

@@ -2,7 +2,7 @@
 
 ghost use Rattle.std.specs.Prelude.{◌≤◌, ◌^◌};
 
-use crate::lines::{cut, number};
+use crate::lines::{cut, number, small};
 use span_batcher::{Batch, SpanBatcher};
 use std::alloc::{AllocError, Global};
 use std::process::Abort;
@@ -13,7 +13,7 @@ fn added(
     alloc: Global,
     batcher: &mut SpanBatcher,
     moment: u64,
-    spans: &[usize],
+    spans: &[u32],
 ) -> Result<Vec<Batch>, AllocError>
     requires { moment ≤ 2 ^ 62 }
 {
@@ -36,7 +36,7 @@ fn added(
 }
 
 /// A group comes that fills no batch; where it has no span, fills one, or the timer runs out first, nothing changes.
-fn appended(batcher: &mut SpanBatcher, moment: u64, spans: &[usize]) -> Result<(), AllocError>
+fn appended(batcher: &mut SpanBatcher, moment: u64, spans: &[u32]) -> Result<(), AllocError>
     requires { moment ≤ 2 ^ 62 }
 {
     if spans.is_empty() || batcher.fills(spans.len()) {
@@ -75,10 +75,10 @@ fn drained(batcher: &mut SpanBatcher, moment: u64) -> Option<Batch> {
 }
 
 /// The numbers of spans that spaces part.
-fn spans_of(alloc: Global, text: &str) -> Result<Vec<usize>, AllocError> {
+fn spans_of(alloc: Global, text: &str) -> Result<Vec<u32>, AllocError> {
     let mut spans = Vec::new(alloc);
     for word in text.split(' ') {
-        spans.push(number(word) as usize)?;
+        spans.push(small(word))?;
     }
     Ok(spans)
 }
@@ -226,7 +226,7 @@ fn spans_that_fill_no_batch_are_appended(rt: HostRuntime) -> Result<(), Fail> {
     appended(&mut batcher, 1000, &[21])?;
     assert!(rt; !batcher.fills(1) && batcher.fills(2));
     appended(&mut batcher, 1100, &[22])?;
-    assert!(rt; batcher.spans() == [21_usize, 22].as_slice() && batcher.next_due() == Some(1200));
+    assert!(rt; batcher.spans() == [21_u32, 22].as_slice() && batcher.next_due() == Some(1200));
     Ok(())
 }
 
@@ -238,7 +238,7 @@ fn appended_spans_are_taken_back(rt: HostRuntime) -> Result<(), Fail> {
     let one = batcher.mark();
     appended(&mut batcher, 1100, &[22, 23])?;
     batcher.cut_back(one);
-    assert!(rt; batcher.spans() == [21_usize].as_slice() && batcher.next_due() == Some(1200));
+    assert!(rt; batcher.spans() == [21_u32].as_slice() && batcher.next_due() == Some(1200));
     batcher.cut_back(none);
     assert!(rt; batcher.spans().is_empty() && batcher.next_due().is_none());
     Ok(())

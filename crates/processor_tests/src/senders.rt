@@ -69,6 +69,16 @@ fn is_job(job: Option<(u64, Bytes)>, wanted: &Wanted<'_>) -> bool {
     }
 }
 
+/// Whether as many batches wait to be sent first as wanted, of as many as may.
+fn has_room(queue: &SendQueue, wanted: &Wanted<'_>) -> bool {
+    is(
+        wanted,
+        "of",
+        queue.waiting() as u64,
+        u64::from(queue.capacity()),
+    )
+}
+
 fn is_ready(ready: Option<u64>, wanted: &Wanted<'_>) -> bool {
     match ready {
         Some(moment) => is(wanted, "at", moment, 0),
@@ -114,6 +124,7 @@ fn goes(alloc: Global, queue: &mut SendQueue, line: &'static str) -> Result<bool
         "job" => Ok(is_job(queue.take_job(moment)?, &wanted)),
         "leaves" => Ok(is(&wanted, "spans", queue.leaving(moment), 0)),
         "ready" => Ok(is_ready(queue.ready(), &wanted)),
+        "room" => Ok(has_room(queue, &wanted)),
         _ => settles(alloc, queue, asked, &wanted),
     }
 }
@@ -155,13 +166,17 @@ const FIFTY_SECONDS: RetryOnFailure = RetryOnFailure {
 
 const SENT: &str = "\
 job 999 = none
+room 999 = of 0 1
 offer 1000 abc = taken
+room 1000 = of 1 1
 offer 1000 d = full 1
+room 1000 = of 1 1
 ready = at 1000
 leaves 1000 = spans 3
 answer 1 1000 0 200 - - = fault 21
 job 1000 = abc 1
 leaves 1000 = spans 0
+room 1000 = of 0 1
 offer 1000 ef = taken
 leaves 1000 = spans 0
 ready = none
@@ -187,6 +202,7 @@ offer 1000 abc = taken
 job 1000 = abc 1
 answer 1 1000 0 503 40 - = waits 3 41000
 answer 1 1000 0 200 - - = fault 21
+room 1000 = of 0 1
 offer 2000 d = taken
 ready = at 41000
 job 40999 = none
@@ -247,7 +263,9 @@ answer 6 9000 0 200 - two = taken 1 2
 answer 7 9000 0 200 - - = taken 1 0
 offer 1000 a = taken
 offer 1100 b = taken
+room 1100 = of 2 3
 back = b
+room 1100 = of 1 3
 ready = at 1000
 back = a
 ready = none

@@ -1,6 +1,6 @@
 //! The batches of one tenant that wait to be sent or are being sent.
 
-ghost use Rattle.std.specs.Prelude.{◌≡◌, ◌<◌, ◌≤◌, ◌^◌, ◌↔◌, true, Err, IfOk, IfErr, OnOk, OnErr, Some, None, option_map, ok_or, IsTrue, []};
+ghost use Rattle.std.specs.Prelude.{◌≡◌, ◌<◌, ◌≤◌, ◌^◌, ◌↔◌, true, Err, IfOk, IfErr, OnOk, OnErr, Some, None, option_map, ok_or, IsTrue, [], length};
 ghost use Rattle.tail_settings.specs.SendingQueue.{sending_queue_view};
 ghost use Rattle.tail_settings.specs.RetryOnFailure.{retry_view};
 ghost use Rattle.send_retry.specs.Class.{answer_view};
@@ -78,6 +78,20 @@ impl SendQueue {
         ensures { IsTrue result ↔ ((self.now.queue ≡ []) × (self.now.active ≡ [])) }
     {
         self.queue.is_empty() && self.active.len() == 0
+    }
+
+    /// How many batches wait to be sent for the first time: those that `capacity` bounds.
+    pub fn waiting(&self) -> usize
+        ensures { result ≡ length self.now.queue }
+    {
+        self.queue.len()
+    }
+
+    /// How many batches may wait so. Where as many do, the next one comes back.
+    pub fn capacity(&self) -> u32
+        ensures { result ≡ self.now.sending.queue_size }
+    {
+        self.sending.queue_size
     }
 
     /// A batch that formed waits to be sent, behind the others. It comes back where the queue is full, and where memory

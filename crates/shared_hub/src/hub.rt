@@ -144,8 +144,8 @@ impl SharedHub {
         told.answer.is_empty
     }
 
-    /// The same, with how many rows of the tenant are present, when it and its shard are ready next, and whether the
-    /// shard was refused memory before: if not, it is so where a run of the shard ends. It takes no memory.
+    /// The same, with how full the tenant is and may be, when it and its shard are ready next, and whether the shard
+    /// was refused memory before: if not, it is so where a run of the shard ends. It takes no memory.
     pub fn look<R: Wait>(&self, rt: &R, me: &mut Caller, tenant: u32) -> Told<Waiting>
         requires same_hub { slots_of me.old ≡ self.now }
         ensures look { IsLookOn me.old (shard_of (length self.now) tenant) tenant result }

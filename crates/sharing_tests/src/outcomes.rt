@@ -2,7 +2,7 @@
 
 use crate::story::{Line, cut};
 use shared_hub::{Entry, WordSource};
-use std::alloc::Global;
+use std::alloc::{AllocError, Global};
 use tenant_shard::{Outcome, Step, Waiting};
 
 /// An outcome's kind, tenant, number and text.
@@ -47,15 +47,44 @@ fn is_text(alloc: Global, kind: &str, bytes: &[u8], text: &str) -> bool {
     }
 }
 
-/// Whether a tenant has as many rows, and it and its shard wait for what a line says.
-pub fn is_waiting(waiting: &Waiting, line: &str) -> bool {
+/// Whether a tenant is as full, and it and its shard wait for what a line says.
+pub fn is_waiting(alloc: Global, waiting: &Waiting, line: &str) -> bool {
     let (empty, rest) = cut(line);
-    let (rows, rest) = cut(rest);
+    let (usage, rest) = cut(rest);
     let (tenant, shard) = cut(rest);
     (empty == "yes") == waiting.is_empty
-        && rows.parse().ok() == Some(waiting.rows)
+        && is_usage(alloc, waiting, usage)
         && is_moment(waiting.tenant_ready, tenant)
         && is_moment(waiting.shard_ready, shard)
+}
+
+fn is_usage(alloc: Global, waiting: &Waiting, text: &str) -> bool {
+    let usage = &waiting.usage;
+    match usage_text(
+        alloc,
+        usage.rows,
+        usage.undecided_rows,
+        usage.rows_limit,
+        usage.spans_limit,
+        usage.queued_batches,
+        usage.queued_batches_limit,
+    ) {
+        Ok(said) => said.as_str() == text,
+        Err(_) => false,
+    }
+}
+
+/// Rows, those that are undecided, the limits of rows and of spans, batches in the queue, and their limit.
+fn usage_text(
+    alloc: Global,
+    rows: u64,
+    undecided: u64,
+    most_rows: u64,
+    most_spans: u64,
+    batches: u64,
+    most_batches: u64,
+) -> Result<String, AllocError> {
+    format!(in alloc; "{rows}/{undecided}/{most_rows}/{most_spans}/{batches}/{most_batches}")
 }
 
 fn is_moment(moment: Option<u64>, text: &str) -> bool {

@@ -50,7 +50,7 @@ fn is_told<R: Threads + Wait + Sync>(
     if line.shard == "-" {
         let told = hub.look(rt, me, line.tenant);
         return !told.stopped
-            && is_waiting(&told.answer, line.outcome)
+            && is_waiting(alloc, &told.answer, line.outcome)
             && hub.empty(rt, me, line.tenant) == told.answer.is_empty;
     }
     match made(rt, alloc, settings, hub, me, line) {

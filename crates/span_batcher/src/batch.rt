@@ -8,7 +8,7 @@ use std::marker::Model;
 #[derive(Drop)]
 pub struct Batch {
     moment: u64,
-    spans: Vec<usize>,
+    spans: Vec<u32>,
 }
 
 impl Model for Batch {
@@ -22,7 +22,7 @@ impl Model for Batch {
 
 impl Batch {
     /// A batch of these spans.
-    pub(crate) fn new(moment: u64, spans: Vec<usize>) -> Self
+    pub(crate) fn new(moment: u64, spans: Vec<u32>) -> Self
         ensures { result ≡ record { moment = moment; spans = spans.items } }
     {
         Batch { moment, spans }
@@ -36,7 +36,7 @@ impl Batch {
     }
 
     /// Its spans' keys, in the order in which the spans came.
-    pub fn spans(&self) -> &[usize]
+    pub fn spans(&self) -> &[u32]
         ensures { result.now ≡ self.now.spans }
     {
         self.spans.as_slice()

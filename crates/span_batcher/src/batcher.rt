@@ -20,7 +20,7 @@ pub struct SpanBatcher {
     size: usize,
     most: usize,
     start: Option<u64>,
-    spans: Vec<usize>,
+    spans: Vec<u32>,
 }
 
 impl Model for SpanBatcher {
@@ -54,7 +54,7 @@ fn at_most(most: usize, count: usize) -> usize
 }
 
 /// When the timer of a new rest starts.
-fn start_in(moment: u64, rest: &[usize]) -> Option<u64>
+fn start_in(moment: u64, rest: &[u32]) -> Option<u64>
     ensures { result ≡ start_in moment rest.now }
 {
     match rest {
@@ -70,8 +70,8 @@ fn cut_all(
     size: usize,
     most: usize,
     moment: u64,
-    all: &[usize],
-) -> Result<(Vec<Batch>, Vec<usize>), AllocError>
+    all: &[u32],
+) -> Result<(Vec<Batch>, Vec<u32>), AllocError>
     requires valid_rules { AreValidRules (rules_of timeout size most) }
     ensures batches { IfOk result (λ cut. cut.0.items ≡ cuts (rules_of timeout size most) moment
         all.now) }
@@ -116,7 +116,7 @@ impl SpanBatcher {
     }
 
     /// The keys of the pending spans, in the order in which the spans came.
-    pub fn spans(&self) -> &[usize]
+    pub fn spans(&self) -> &[u32]
         ensures { result.now ≡ self.now.spans }
     {
         self.spans.as_slice()
@@ -142,7 +142,7 @@ impl SpanBatcher {
     /// A group of spans comes at a moment in milliseconds, before the timer runs out, and fills no batch: it is pending
     /// with what was. Of many that follow each other, each takes time by its own spans alone. Where memory is refused,
     /// nothing has changed.
-    pub fn append(&mut self, moment: u64, spans: &[usize]) -> Result<(), AllocError>
+    pub fn append(&mut self, moment: u64, spans: &[u32]) -> Result<(), AllocError>
         requires not_empty { 0 < length spans.now }
         requires moment { moment ≤ 2 ^ 62 }
         requires timer { IsAfter (next_due self.old) moment }
@@ -180,7 +180,7 @@ impl SpanBatcher {
 
     /// What a group of spans makes of the pending ones at a moment in milliseconds, before the timer runs out. Nothing
     /// changes yet, and `take` makes it so.
-    pub fn plan(&self, moment: u64, spans: &[usize]) -> Result<Planned, AllocError>
+    pub fn plan(&self, moment: u64, spans: &[u32]) -> Result<Planned, AllocError>
         requires not_empty { 0 < length spans.now }
         requires moment { moment ≤ 2 ^ 62 }
         requires timer { IsAfter (next_due self.now) moment }

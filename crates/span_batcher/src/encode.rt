@@ -23,7 +23,7 @@ const INNER: u32 = 2;
 const SCHEMA_URL: u32 = 3;
 
 /// The tenant's text at a key, where there is a key and a text.
-fn text_at(texts: &TextPool, tenant: u32, key: Option<usize>) -> Option<&TextSlice>
+fn text_at(texts: &TextPool, tenant: u32, key: Option<u32>) -> Option<&TextSlice>
     ensures { option_copied result ≡ text_at (texts_in texts.now tenant) key }
 {
     match key {
@@ -33,7 +33,7 @@ fn text_at(texts: &TextPool, tenant: u32, key: Option<usize>) -> Option<&TextSli
 }
 
 /// The bytes of the tenant's text at a key, none where there is no text.
-fn bytes_at(texts: &TextPool, tenant: u32, key: Option<usize>) -> &[u8]
+fn bytes_at(texts: &TextPool, tenant: u32, key: Option<u32>) -> &[u8]
     ensures { result.now ≡ bytes_of (text_at (texts_in texts.now tenant) key) }
 {
     match text_at(texts, tenant, key) {
@@ -82,12 +82,7 @@ fn are_same(one: Option<&TextSlice>, other: Option<&TextSlice>) -> bool
 }
 
 /// Whether the texts at keys of two tenants are the same, or missing at both. Of one tenant the keys most often tell.
-fn is_same_text(
-    texts: &TextPool,
-    tenants: (u32, u32),
-    one: Option<usize>,
-    other: Option<usize>,
-) -> bool
+fn is_same_text(texts: &TextPool, tenants: (u32, u32), one: Option<u32>, other: Option<u32>) -> bool
     ensures { result ≡ same_text
         (text_at (texts_in texts.now tenants.0) one)
         (text_at (texts_in texts.now tenants.1) other) }
@@ -104,12 +99,7 @@ fn is_same_text(
 }
 
 /// Whether the URLs at keys of two tenants are the same, of which a missing one is empty.
-fn is_same_url(
-    texts: &TextPool,
-    tenants: (u32, u32),
-    one: Option<usize>,
-    other: Option<usize>,
-) -> bool
+fn is_same_url(texts: &TextPool, tenants: (u32, u32), one: Option<u32>, other: Option<u32>) -> bool
     ensures { result ≡ same_bytes (bytes_of (text_at (texts_in texts.now tenants.0) one))
         (bytes_of (text_at (texts_in texts.now tenants.1) other)) }
 {

@@ -10,7 +10,7 @@ use std::marker::Model;
 pub struct Planned {
     pub(crate) batches: Vec<Batch>,
     pub(crate) start: Option<u64>,
-    pub(crate) spans: Vec<usize>,
+    pub(crate) spans: Vec<u32>,
 }
 
 impl Model for Planned {

@@ -4,11 +4,11 @@
 #[derive(Clone, Copy, Debug, PartialEq, Eq)]
 pub struct TextKeys {
     /// The resource's.
-    pub resource: Option<usize>,
+    pub resource: Option<u32>,
     /// That of the URL of the resource's schema.
-    pub resource_schema_url: Option<usize>,
+    pub resource_schema_url: Option<u32>,
     /// The scope's.
-    pub scope: Option<usize>,
+    pub scope: Option<u32>,
     /// That of the URL of the scope's schema.
-    pub scope_schema_url: Option<usize>,
+    pub scope_schema_url: Option<u32>,
 }

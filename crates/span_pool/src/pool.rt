@@ -51,9 +51,9 @@ impl<S: Owned> SpanPool<S> {
         }
     }
 
-    /// The span goes into its owner's part, under a key that was vacant. Where memory is refused, the error has the
-    /// span.
-    pub fn put(&mut self, span: S) -> Result<usize, AllocFailed<S>>
+    /// The span goes into its owner's part, under a key that was vacant. Where memory is refused, and where the vacant
+    /// key would be 2^32 or more, the error has the span.
+    pub fn put(&mut self, span: S) -> Result<u32, AllocFailed<S>>
         ensures vacant { IfOk result (λ key. (tenant : ℕ)
             → part S.owner tenant self.old key ≡ None) }
         ensures own_part { IfOk result (λ key. part S.owner (S.owner span) self.new ≡
@@ -66,28 +66,32 @@ impl<S: Owned> SpanPool<S> {
             ≡ part S.owner (S.owner span) self.old) }
         ensures back { IfErr result (λ failed. failed.value ≡ span) }
     {
-        self.spans.insert(span)
+        let Ok(key) = u32::try_from(self.spans.vacant_key()) else {
+            return Err(AllocFailed { value: span });
+        };
+        self.spans.insert(span)?;
+        Ok(key)
     }
 
     /// The span at a key, whoever owns it.
-    pub fn get(&self, key: usize) -> Option<&S>
+    pub fn get(&self, key: u32) -> Option<&S>
         ensures { option_copied result ≡ get self.now key }
     {
-        self.spans.get(key)
+        self.spans.get(key as usize)
     }
 
     /// The tenant's own span at a key.
-    pub fn owned(&self, tenant: u32, key: usize) -> Option<&S>
+    pub fn owned(&self, tenant: u32, key: u32) -> Option<&S>
         ensures { option_copied result ≡ part S.owner tenant self.now key }
     {
-        match self.spans.get(key) {
+        match self.spans.get(key as usize) {
             Some(span) if span.owner() == tenant => Some(span),
             _ => None,
         }
     }
 
     /// Takes out a span that the tenant owns. Where it owns none at the key, nothing changes. It takes no memory.
-    pub fn take(&mut self, tenant: u32, key: usize) -> Result<S, NotYours>
+    pub fn take(&mut self, tenant: u32, key: u32) -> Result<S, NotYours>
         ensures yours { IfOk result (λ span. part S.owner tenant self.old key ≡ Some span) }
         ensures own_part { OnOk result (part S.owner tenant self.new
             ≡ with_span key None (part S.owner tenant self.old)) }
@@ -96,15 +100,15 @@ impl<S: Owned> SpanPool<S> {
         ensures on_error { OnErr result (part S.owner tenant self.old key ≡ None) }
         ensures unchanged { OnErr result (self.new ≡ self.old) }
     {
-        match self.spans.get(key) {
-            Some(span) if span.owner() == tenant => Ok(self.spans.remove(key)),
+        match self.spans.get(key as usize) {
+            Some(span) if span.owner() == tenant => Ok(self.spans.remove(key as usize)),
             _ => Err(NotYours),
         }
     }
 
     /// Takes back a span of the tenant's that was put under this key. Where it owns none there, nothing changes. It
     /// takes no memory.
-    pub fn undo_put(&mut self, tenant: u32, key: usize)
+    pub fn undo_put(&mut self, tenant: u32, key: u32)
         ensures own_part { part S.owner tenant self.new ≡ with_span key None
             (part S.owner tenant self.old) }
         ensures others_unchanged { (other : ℕ) → other ≢ tenant

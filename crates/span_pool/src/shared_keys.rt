@@ -12,16 +12,16 @@ use std::sync::Arc;
 #[derive(Debug, Drop)]
 struct Packed {
     owner: u32,
-    // Which of the keys there are. An `Option<usize>` takes 16 bytes.
+    // Which of the keys there are. An `Option<u32>` takes 8 bytes.
     has_resource: bool,
     has_resource_schema_url: bool,
     has_scope: bool,
     has_scope_schema_url: bool,
     // The keys, 0 for each that there isn't.
-    resource: usize,
-    resource_schema_url: usize,
-    scope: usize,
-    scope_schema_url: usize,
+    resource: u32,
+    resource_schema_url: u32,
+    scope: u32,
+    scope_schema_url: u32,
 }
 
 impl Model for Packed {
@@ -41,7 +41,7 @@ impl Model for Packed {
 }
 
 /// Whether there is a key, and which, 0 where there is none.
-fn parted(key: Option<usize>) -> (bool, usize)
+fn parted(key: Option<u32>) -> (bool, u32)
     ensures { key_where result.0 result.1 ≡ key }
 {
     match key {
@@ -51,7 +51,7 @@ fn parted(key: Option<usize>) -> (bool, usize)
 }
 
 /// The key, where there is one.
-fn joined(is_there: bool, key: usize) -> Option<usize>
+fn joined(is_there: bool, key: u32) -> Option<u32>
     ensures { result ≡ key_where is_there key }
 {
     if is_there { Some(key) } else { None }
@@ -97,7 +97,7 @@ impl Packed {
 }
 
 /// Keys of a tenant's texts, with the tenant's number, kept once for all spans that name these texts. It has 8 bytes,
-/// and 64 that all of them share, as allocators round 48 up.
+/// and a block of 40 that all of them share.
 #[derive(Debug, Drop)]
 pub struct SharedKeys {
     packed: Arc<Packed>,

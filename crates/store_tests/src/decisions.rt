@@ -1,6 +1,6 @@
 //! Caches of decisions: two tenants' by a story, and caches of one to three ids beside the events of their ids.
 
-use crate::story::{Step, one, step_of};
+use crate::story::{Step, one, small, step_of};
 use decision_cache::{DecisionCaches, HashKeys};
 use std::alloc::AllocError;
 use std::io;
@@ -14,7 +14,7 @@ const KEYS: HashKeys = HashKeys {
 };
 
 /// Ids that differ in one byte.
-fn id(number: usize) -> [u8; 16] {
+fn id(number: u32) -> [u8; 16] {
     let last = match number {
         1 => 1,
         2 => 2,
@@ -27,7 +27,7 @@ fn id(number: usize) -> [u8; 16] {
 }
 
 /// 2 for a trace that was sampled, 1 for one that wasn't, and 0 where no cache has its id.
-fn verdict(found: Option<bool>) -> usize {
+fn verdict(found: Option<bool>) -> u32 {
     match found {
         Some(true) => 2,
         Some(false) => 1,
@@ -36,7 +36,7 @@ fn verdict(found: Option<bool>) -> usize {
 }
 
 /// What is found, which is hit.
-fn hit(caches: &mut DecisionCaches, number: usize) -> Result<usize, AllocError> {
+fn hit(caches: &mut DecisionCaches, number: u32) -> Result<u32, AllocError> {
     let trace = id(number);
     let found = caches.find(trace);
     if let Some(sampled) = found {
@@ -46,7 +46,7 @@ fn hit(caches: &mut DecisionCaches, number: usize) -> Result<usize, AllocError> 
 }
 
 /// What a call gives.
-fn given(caches: &mut DecisionCaches, step: &Step<'_>) -> Result<usize, AllocError> {
+fn given(caches: &mut DecisionCaches, step: &Step<'_>) -> Result<u32, AllocError> {
     match step.call {
         "find" => Ok(verdict(caches.find(id(step.number)))),
         "hit" => hit(caches, step.number),
@@ -56,7 +56,7 @@ fn given(caches: &mut DecisionCaches, step: &Step<'_>) -> Result<usize, AllocErr
             Ok(0)
         }
         "undo" => {
-            caches.undo_hits(step.number);
+            caches.undo_hits(step.number as usize);
             Ok(0)
         }
         _ => {
@@ -67,8 +67,8 @@ fn given(caches: &mut DecisionCaches, step: &Step<'_>) -> Result<usize, AllocErr
 }
 
 /// What is found of each id.
-fn told(caches: &DecisionCaches) -> [usize; 6] {
-    let one = |number: usize| verdict(caches.find(id(number)));
+fn told(caches: &DecisionCaches) -> [u32; 6] {
+    let one = |number: u32| verdict(caches.find(id(number)));
     [one(0), one(1), one(2), one(3), one(4), one(5)]
 }
 
@@ -77,7 +77,7 @@ fn given_at_last(
     rt: &impl Abort,
     caches: &mut DecisionCaches,
     step: &Step<'_>,
-) -> Result<usize, AllocError> {
+) -> Result<u32, AllocError> {
     let before = told(caches);
     if let Ok(number) = given(caches, step) {
         return Ok(number);
@@ -162,7 +162,7 @@ fn decisions_are_found_until_others_were_used_later(rt: HostRuntime) -> Result<(
 }
 
 /// When each id had its last event in a cache, 0 for never.
-type Events = [usize; 6];
+type Events = [u32; 6];
 
 /// The events of the ids of both caches.
 #[derive(Clone, Copy)]
@@ -180,13 +180,13 @@ struct Plain {
 }
 
 /// Whether a cache of this size has the id whose last event was then: fewer ids than that had events after it.
-fn is_cached(size: usize, events: &Events, last: usize) -> bool {
+fn is_cached(size: usize, events: &Events, last: u32) -> bool {
     last > 0 && events.iter().filter(|event| **event > last).count() < size
 }
 
 impl Plain {
-    fn find(&self, number: usize) -> usize {
-        let at = number % 6;
+    fn find(&self, number: u32) -> u32 {
+        let at = number as usize % 6;
         if is_cached(self.size, &self.shown.sampled, self.shown.sampled[at]) {
             2
         } else if is_cached(self.size, &self.shown.other, self.shown.other[at]) {
@@ -196,8 +196,8 @@ impl Plain {
         }
     }
 
-    fn note(&mut self, number: usize, verdict: usize, moment: usize) {
-        let at = number % 6;
+    fn note(&mut self, number: u32, verdict: u32, moment: u32) {
+        let at = number as usize % 6;
         if verdict == 2 {
             self.shown.sampled[at] = moment;
         } else {
@@ -206,7 +206,7 @@ impl Plain {
     }
 
     /// What a call does, at a moment.
-    fn follow(&mut self, step: &Step<'_>, moment: usize) {
+    fn follow(&mut self, step: &Step<'_>, moment: u32) {
         match step.call {
             "hit" => {
                 let verdict = self.find(step.number);
@@ -223,7 +223,7 @@ impl Plain {
         }
     }
 
-    fn told(&self) -> [usize; 6] {
+    fn told(&self) -> [u32; 6] {
         [
             self.find(0),
             self.find(1),
@@ -236,7 +236,7 @@ impl Plain {
 }
 
 /// A call by a number that chance picked.
-fn step_by(pick: usize) -> Step<'static> {
+fn step_by(pick: u32) -> Step<'static> {
     let call = match pick % 8 {
         0 | 1 | 2 => "put",
         3 | 4 | 5 => "hit",
@@ -257,14 +257,14 @@ fn alike(
     rt: &impl Abort,
     caches: &mut DecisionCaches,
     plain: &mut Plain,
-    calls: usize,
-) -> Result<usize, AllocError> {
+    calls: u32,
+) -> Result<u32, AllocError> {
     let mut picked: u64 = 1;
     for moment in 1..calls {
         picked = picked
             .wrapping_mul(6_364_136_223_846_793_005)
             .wrapping_add(1_442_695_040_888_963_407);
-        let step = step_by((picked >> 33) as usize);
+        let step = step_by(small(picked >> 33));
         given_at_last(rt, caches, &step)?;
         plain.follow(&step, moment);
         if told(caches) != plain.told() {

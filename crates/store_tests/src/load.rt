@@ -107,7 +107,7 @@ fn come(
 }
 
 /// These spans leave the pool.
-fn take_all(pool: &mut SpanPool<StoredSpan>, tenant: u32, keys: &[usize]) {
+fn take_all(pool: &mut SpanPool<StoredSpan>, tenant: u32, keys: &[u32]) {
     for key in keys {
         pool.undo_put(tenant, *key);
     }

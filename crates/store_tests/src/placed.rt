@@ -27,7 +27,7 @@ pub const B: &[u8] = b"\x2a\x01b";
 pub const C: &[u8] = b"\x2a\x01c";
 
 fn text(alloc: Global, bytes: &[u8]) -> Result<SharedBytes, AllocError> {
-    Ok(SharedBytes::of(TextSlice::copy_from_slice(alloc, bytes)?))
+    SharedBytes::of(alloc, TextSlice::copy_from_slice(alloc, bytes)?)
 }
 
 /// The keys of a resource and a scope, with a use of each, or none.
@@ -37,7 +37,7 @@ pub fn held(alloc: Global, stores: &mut Stores<u64>, tenant: u32) -> Result<Text
 }
 
 /// The keys of a scope and of a resource behind it.
-pub fn keys_from(scope: usize) -> TextKeys {
+pub fn keys_from(scope: u32) -> TextKeys {
     TextKeys {
         resource: Some(scope.saturating_add(1)),
         resource_schema_url: None,
@@ -125,7 +125,7 @@ pub fn late(
     tenant: u32,
     keys: TextKeys,
     name: &[u8],
-) -> Result<usize, AllocError> {
+) -> Result<u32, AllocError> {
     let keys = stores.hold_again(tenant, keys)?;
     let span = span_or_release(alloc, stores, tenant, keys, name)?;
     match stores.keep_late(span) {
@@ -138,7 +138,7 @@ pub fn late(
 }
 
 /// Which text this is: 1 to 3 for a span, 4 for the resource, 5 for the scope.
-fn number_of(bytes: &[u8]) -> usize {
+fn number_of(bytes: &[u8]) -> u32 {
     if bytes == A {
         1
     } else if bytes == B {
@@ -155,7 +155,7 @@ fn number_of(bytes: &[u8]) -> usize {
 }
 
 /// Which span the tenant has at a key, 0 for none.
-fn span_at(stores: &Stores<u64>, tenant: u32, key: usize) -> usize {
+fn span_at(stores: &Stores<u64>, tenant: u32, key: u32) -> u32 {
     match stores.span(tenant, key) {
         Some(span) => number_of(span.text().as_slice()),
         None => 0,
@@ -163,7 +163,7 @@ fn span_at(stores: &Stores<u64>, tenant: u32, key: usize) -> usize {
 }
 
 /// Which text the tenant has at a key, 0 for none.
-fn text_at(stores: &Stores<u64>, tenant: u32, key: usize) -> usize {
+fn text_at(stores: &Stores<u64>, tenant: u32, key: u32) -> u32 {
     match stores.texts().text(tenant, key) {
         Some(text) => number_of(text.as_slice()),
         None => 0,

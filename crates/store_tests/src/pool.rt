@@ -27,13 +27,13 @@ const FIRST: &[u8] = b"\x2a\x01\x31";
 const SECOND: &[u8] = b"\x2a\x01\x32";
 
 /// The span of this number, with these keys.
-fn span_of(alloc: Global, source: SharedKeys, number: usize) -> Result<StoredSpan, AllocError> {
+fn span_of(alloc: Global, source: SharedKeys, number: u32) -> Result<StoredSpan, AllocError> {
     let name = if number == 1 { FIRST } else { SECOND };
     Ok(StoredSpan::of(source, TextSlice::copy_from_slice(alloc, name)?))
 }
 
 /// The span of this number, with keys of its own.
-fn span(alloc: Global, owner: u32, number: usize) -> Result<StoredSpan, AllocError> {
+fn span(alloc: Global, owner: u32, number: u32) -> Result<StoredSpan, AllocError> {
     span_of(alloc, SharedKeys::of(alloc, owner, KEYS)?, number)
 }
 
@@ -58,7 +58,7 @@ fn spans_share_their_keys(rt: HostRuntime) -> Result<(), Fail> {
     Ok(())
 }
 
-fn number_of(span: Option<&StoredSpan>) -> usize {
+fn number_of(span: Option<&StoredSpan>) -> u32 {
     let Some(span) = span else {
         return 0;
     };
@@ -70,7 +70,7 @@ fn number_of(span: Option<&StoredSpan>) -> usize {
 }
 
 /// What a tenant owns at four keys.
-fn owned(pool: &SpanPool<StoredSpan>, tenant: u32) -> [usize; 4] {
+fn owned(pool: &SpanPool<StoredSpan>, tenant: u32) -> [u32; 4] {
     [
         number_of(pool.owned(tenant, 0)),
         number_of(pool.owned(tenant, 1)),
@@ -84,7 +84,7 @@ fn put(
     rt: &impl Abort,
     pool: &mut SpanPool<StoredSpan>,
     span: StoredSpan,
-) -> Result<usize, AllocError> {
+) -> Result<u32, AllocError> {
     let before = (owned(pool, 7), owned(pool, 8));
     match pool.put(span) {
         Ok(key) => Ok(key),
@@ -95,10 +95,10 @@ fn put(
     }
 }
 
-fn taken(pool: &mut SpanPool<StoredSpan>, tenant: u32, key: usize) -> usize {
+fn taken(pool: &mut SpanPool<StoredSpan>, tenant: u32, key: u32) -> u32 {
     match pool.take(tenant, key) {
         Ok(span) => number_of(Some(&span)),
-        Err(refused) => refused.number() as usize,
+        Err(refused) => refused.number(),
     }
 }
 
@@ -107,7 +107,7 @@ fn given(
     alloc: Global,
     pool: &mut SpanPool<StoredSpan>,
     step: &Step<'_>,
-) -> Result<usize, AllocError> {
+) -> Result<u32, AllocError> {
     match step.call {
         "put" => put(rt, pool, span(alloc, step.tenant, step.number)?),
         "take" => Ok(taken(pool, step.tenant, step.number)),

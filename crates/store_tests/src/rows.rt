@@ -11,7 +11,7 @@ const TRACE: [u8; 16] = [0x11; 16];
 const OTHER: [u8; 16] = [0x12; 16];
 
 /// A row of one span.
-fn row(alloc: Global, trace: [u8; 16], key: usize) -> Result<Row<usize>, AllocError> {
+fn row(alloc: Global, trace: [u8; 16], key: u32) -> Result<Row<u32>, AllocError> {
     Ok(Row {
         trace,
         due: 1000,
@@ -24,12 +24,12 @@ fn row(alloc: Global, trace: [u8; 16], key: usize) -> Result<Row<usize>, AllocEr
 /// Opens a row, and tells the trace's row before it. Where the number has a row, nothing opens.
 fn open(
     alloc: Global,
-    table: &mut TraceRows<usize>,
+    table: &mut TraceRows<u32>,
     tenant: u32,
     number: u64,
     trace: [u8; 16],
-    key: usize,
-) -> Result<usize, AllocError> {
+    key: u32,
+) -> Result<u32, AllocError> {
     let None = table.row(tenant, number) else {
         return Ok(1000);
     };
@@ -38,7 +38,7 @@ fn open(
 }
 
 /// The keys of a row.
-fn of_keys(keys: &[usize]) -> Numbers {
+fn of_keys(keys: &[u32]) -> Numbers {
     match keys {
         [] => one(0),
         [key] => one(*key),
@@ -47,7 +47,7 @@ fn of_keys(keys: &[usize]) -> Numbers {
     }
 }
 
-fn waiting(table: &TraceRows<usize>, tenant: u32, number: u64) -> Numbers {
+fn waiting(table: &TraceRows<u32>, tenant: u32, number: u64) -> Numbers {
     match table.row(tenant, number) {
         Some(row) => {
             if row.sampled || row.due != 1000 {
@@ -60,36 +60,30 @@ fn waiting(table: &TraceRows<usize>, tenant: u32, number: u64) -> Numbers {
     }
 }
 
-fn noted(table: &TraceRows<usize>, tenant: u32, number: u64) -> Numbers {
+fn noted(table: &TraceRows<u32>, tenant: u32, number: u64) -> Numbers {
     match table.row(tenant, number) {
-        Some(row) => two(row.note, usize::from(row.sampled)),
+        Some(row) => two(row.note, u32::from(row.sampled)),
         None => one(0),
     }
 }
 
-fn seats(table: &TraceRows<usize>, tenant: u32) -> Numbers {
+fn seats(table: &TraceRows<u32>, tenant: u32) -> Numbers {
     let first = row_number(table.latest_row(tenant, TRACE));
     two(first, row_number(table.latest_row(tenant, OTHER)))
 }
 
 /// Takes back the opening of a row.
-fn undo_open(
-    table: &mut TraceRows<usize>,
-    tenant: u32,
-    number: u64,
-    trace: [u8; 16],
-    earlier: usize,
-) {
+fn undo_open(table: &mut TraceRows<u32>, tenant: u32, number: u64, earlier: u32) {
     let earlier = if earlier == 0 {
         None
     } else {
         Some(earlier as u64)
     };
-    table.undo_open(tenant, number, trace, earlier);
+    table.undo_open(tenant, number, earlier);
 }
 
 /// What a call gives that takes memory.
-fn put(alloc: Global, table: &mut TraceRows<usize>, step: &Step<'_>) -> Result<usize, AllocError> {
+fn put(alloc: Global, table: &mut TraceRows<u32>, step: &Step<'_>) -> Result<u32, AllocError> {
     let number = step.number as u64;
     match step.call {
         "open" => open(alloc, table, step.tenant, number, TRACE, step.other),
@@ -98,24 +92,26 @@ fn put(alloc: Global, table: &mut TraceRows<usize>, step: &Step<'_>) -> Result<u
     }
 }
 
-/// What a call takes back.
-fn undo(table: &mut TraceRows<usize>, step: &Step<'_>) {
+/// What a call takes back. The answer is the key that left a row, 0 for none.
+fn undo(table: &mut TraceRows<u32>, step: &Step<'_>) -> u32 {
     let number = step.number as u64;
     match step.call {
-        "undo-join" => {
-            table.undo_join(step.tenant, number, step.other);
+        "undo-join" => table
+            .undo_join(step.tenant, number, step.other)
+            .unwrap_or(0),
+        _ => {
+            undo_open(table, step.tenant, number, step.other);
+            0
         }
-        "undo-open" => undo_open(table, step.tenant, number, TRACE, step.other),
-        _ => undo_open(table, step.tenant, number, OTHER, step.other),
     }
 }
 
-fn settled(alloc: Global, table: &mut TraceRows<usize>, tenant: u32, number: u64) -> Numbers {
+fn settled(alloc: Global, table: &mut TraceRows<u32>, tenant: u32, number: u64) -> Numbers {
     let keys = table.settle(alloc, tenant, number, true);
     of_keys(keys.as_slice())
 }
 
-fn swept(alloc: Global, table: &mut TraceRows<usize>, tenant: u32, number: u64) -> Numbers {
+fn swept(alloc: Global, table: &mut TraceRows<u32>, tenant: u32, number: u64) -> Numbers {
     let keys = table.sweep(alloc, tenant, number);
     of_keys(keys.as_slice())
 }
@@ -123,7 +119,7 @@ fn swept(alloc: Global, table: &mut TraceRows<usize>, tenant: u32, number: u64) 
 /// What a call gives.
 fn given(
     alloc: Global,
-    table: &mut TraceRows<usize>,
+    table: &mut TraceRows<u32>,
     step: &Step<'_>,
 ) -> Result<Numbers, AllocError> {
     let number = step.number as u64;
@@ -134,15 +130,12 @@ fn given(
         "seats" => Ok(seats(table, step.tenant)),
         "settle" => Ok(settled(alloc, table, step.tenant, number)),
         "sweep" => Ok(swept(alloc, table, step.tenant, number)),
-        _ => {
-            undo(table, step);
-            Ok(one(0))
-        }
+        _ => Ok(one(undo(table, step))),
     }
 }
 
 /// What there is of a tenant: how many keys its three rows have and what is noted of them, and two latest rows.
-fn told(table: &TraceRows<usize>, tenant: u32) -> ([Option<(usize, usize)>; 3], Numbers) {
+fn told(table: &TraceRows<u32>, tenant: u32) -> ([Option<(usize, u32)>; 3], Numbers) {
     let row = |number: u64| match table.row(tenant, number) {
         Some(row) => Some((row.keys.as_slice().len(), row.note)),
         None => None,
@@ -154,7 +147,7 @@ fn told(table: &TraceRows<usize>, tenant: u32) -> ([Option<(usize, usize)>; 3], 
 fn given_at_last(
     rt: &impl Abort,
     alloc: Global,
-    table: &mut TraceRows<usize>,
+    table: &mut TraceRows<u32>,
     step: &Step<'_>,
 ) -> Result<Numbers, AllocError> {
     let before = (told(table, 7), told(table, 8));
@@ -166,7 +159,8 @@ fn given_at_last(
 }
 
 /// With the number of a row and a key: `open` gives the trace's row before, and `join` the note before. `undo-join`
-/// takes back a join after that note, and `undo-open` an opening before which the trace had that row. `settle` and
+/// takes back a join after that note and gives its key, and `undo-open` an opening before which the trace had that row,
+/// of either trace. `settle` and
 /// `sweep` give the keys of a row that is sampled and one that leaves, `waits` those of one that waits, `note` its note
 /// and whether it was sampled, and `seats` the rows of the two traces.
 ///
@@ -191,15 +185,18 @@ seats 8 = 1
 waits 8 1 = 20
 open 7 3 10 = 0
 join 7 3 11 = 10
-undo-join 7 3 10 = 0
+undo-join 7 3 10 = 11
+undo-join 7 9 10 = 0
 waits 7 3 = 10
 note 7 3 = 10
 open 7 4 12 = 3
 undo-open 7 4 3 = 0
+undo-open 7 4 1 = 0
+seats 7 = 3
 note 7 4 = 0
 open-other 7 5 12 = 0
 seats 7 = 3 5
-undo-other 7 5 0 = 0
+undo-open 7 5 0 = 0
 seats 7 = 3
 waits 7 3 = 10
 open 7 1 10 = 3

@@ -3,14 +3,15 @@
 use crate::placed::{
     A, B, C, OTHER, TRACE, held, join, keys_from, late, open, row_at, seats, spans, texts, told,
 };
-use crate::story::{Numbers, Step, one, row_number, step_of, two};
+use crate::story::{Numbers, Step, one, row_number, small, step_of, two};
 use std::alloc::{AllocError, Global};
+use std::mem::size_of;
 use std::process::Abort;
 use std::test::Fail;
 use tenant_stores::{Stores, UndoEntry};
 
 /// The span of this number.
-fn name_of(number: usize) -> &'static [u8] {
+fn name_of(number: u32) -> &'static [u8] {
     match number {
         1 => A,
         2 => B,
@@ -41,7 +42,7 @@ fn opened(alloc: Global, stores: &mut Stores<u64>, step: &Step<'_>) -> Result<Nu
 fn joined(alloc: Global, stores: &mut Stores<u64>, step: &Step<'_>) -> Result<Numbers, AllocError> {
     let number = step.number as u64;
     let joining = join(alloc, stores, step.tenant, number, name_of(step.other), 2)?;
-    Ok(two(joining.key, joining.former as usize))
+    Ok(two(joining.key, small(joining.former)))
 }
 
 /// The keys of the spans of a row that is sampled.
@@ -56,7 +57,14 @@ fn kept(stores: &mut Stores<u64>, tenant: u32, number: u64) -> Numbers {
 /// How many spans a row has, its note, and whether it is there, and sampled.
 fn row_of(stores: &Stores<u64>, tenant: u32, number: u64) -> Numbers {
     match row_at(stores, tenant, number) {
-        Some((spans, note, sampled)) => [spans, note as usize, 1, usize::from(sampled), 0, 0],
+        Some((spans, note, sampled)) => [
+            small(spans as u64),
+            small(note),
+            1,
+            u32::from(sampled),
+            0,
+            0,
+        ],
         None => one(0),
     }
 }
@@ -75,8 +83,8 @@ fn given_at_once(stores: &mut Stores<u64>, step: &Step<'_>) -> Numbers {
             one(0)
         }
         "keep" => kept(stores, tenant, number),
-        "drop" => one(stores.drop_row(tenant, number)),
-        "sweep" => one(stores.sweep(tenant, number)),
+        "drop" => one(small(stores.drop_row(tenant, number) as u64)),
+        "sweep" => one(small(stores.sweep(tenant, number) as u64)),
         "vanish" => {
             stores.vanish(tenant, number, step.other as u64);
             one(0)
@@ -246,6 +254,13 @@ fn stories_of_two_tenants(rt: HostRuntime) -> Result<(), Fail> {
     Ok(())
 }
 
+// A note of a row's spans has 24 bytes, as policies make it.
+#[test]
+fn what_undoes_a_span_is_told_in_40_bytes(rt: HostRuntime) -> Result<(), Fail> {
+    assert!(rt; size_of::<UndoEntry<[u64; 3]>>() == 40);
+    Ok(())
+}
+
 /// A span joins the first row, and the journal tells so.
 fn joins(
     alloc: Global,
@@ -253,7 +268,7 @@ fn joins(
     journal: &mut Vec<UndoEntry<u64>>,
 ) -> Result<(), AllocError> {
     let joining = join(alloc, stores, 7, 1, B, 2)?;
-    journal.push(UndoEntry::Joined(1, joining.key, joining.former))?;
+    journal.push(UndoEntry::Joined(1, joining.former))?;
     Ok(())
 }
 
@@ -266,7 +281,7 @@ fn opens(
     trace: [u8; 16],
 ) -> Result<(), AllocError> {
     if let Some(opening) = open(alloc, stores, 7, number, trace, B)? {
-        journal.push(UndoEntry::Opened(number, opening.key, trace, opening.earlier))?;
+        journal.push(UndoEntry::Opened(number, opening.key, opening.earlier))?;
     }
     Ok(())
 }

@@ -6,26 +6,31 @@
 pub struct Step<'a> {
     pub call: &'a str,
     pub tenant: u32,
-    pub number: usize,
-    pub other: usize,
+    pub number: u32,
+    pub other: u32,
     pub wanted: Numbers,
 }
 
 /// What a call gives.
-pub type Numbers = [usize; 6];
+pub type Numbers = [u32; 6];
 
-pub fn one(number: usize) -> Numbers {
+pub fn one(number: u32) -> Numbers {
     [number, 0, 0, 0, 0, 0]
 }
 
-pub fn two(first: usize, second: usize) -> Numbers {
+pub fn two(first: u32, second: u32) -> Numbers {
     [first, second, 0, 0, 0, 0]
 }
 
+/// The number, or the greatest where it is too great for a story.
+pub fn small(number: u64) -> u32 {
+    u32::try_from(number).unwrap_or(u32::MAX)
+}
+
 /// A row's number, 0 for none.
-pub fn row_number(row: Option<u64>) -> usize {
+pub fn row_number(row: Option<u64>) -> u32 {
     match row {
-        Some(number) => number as usize,
+        Some(number) => small(number),
         None => 0,
     }
 }
@@ -38,8 +43,8 @@ fn cut<'a>(line: &'a str, mark: &str) -> (&'a str, &'a str) {
     }
 }
 
-fn number_of(word: &str) -> usize {
-    match word.parse::<usize>() {
+fn number_of(word: &str) -> u32 {
+    match word.parse::<u32>() {
         Ok(number) => number,
         Err(_) => 0,
     }

@@ -4,7 +4,7 @@ use crate::story::{Step, one, step_of};
 use std::alloc::{AllocError, Global};
 use std::process::Abort;
 use std::test::Fail;
-use text_pool::{SharedBytes, TextPool};
+use text_pool::{CountedText, SharedBytes, TextPool};
 use text_slice::TextSlice;
 
 const FIRST: &[u8] = b"a resource";
@@ -14,14 +14,8 @@ const SECOND: &[u8] = b"another one";
 /// As long as the first.
 const THIRD: &[u8] = b"a resourcf";
 
-/// The example of one block in the SHA examples that FIPS 180-4 refers to.
-const DIGEST_OF_ABC: [u8; 32] = [
-    0xba, 0x78, 0x16, 0xbf, 0x8f, 0x01, 0xcf, 0xea, 0x41, 0x41, 0x40, 0xde, 0x5d, 0xae, 0x22, 0x23,
-    0xb0, 0x03, 0x61, 0xa3, 0x96, 0x17, 0x7a, 0x9c, 0xb4, 0x10, 0xff, 0x61, 0xf2, 0x00, 0x15, 0xad,
-];
-
 fn text(alloc: Global, bytes: &[u8]) -> Result<SharedBytes, AllocError> {
-    Ok(SharedBytes::of(TextSlice::copy_from_slice(alloc, bytes)?))
+    SharedBytes::of(alloc, TextSlice::copy_from_slice(alloc, bytes)?)
 }
 
 #[test]
@@ -32,20 +26,22 @@ fn texts_are_the_same_by_their_bytes(rt: HostRuntime) -> Result<(), Fail> {
     Ok(())
 }
 
-/// Whether a text is shared with its bytes and its digest.
-fn is_shared(first: &SharedBytes, bytes: &[u8], digest: [u8; 32]) -> Result<bool, AllocError> {
-    let shared = first.shared()?;
-    Ok(shared.bytes().as_slice() == bytes && shared.digest() == digest)
-}
-
 #[test]
-fn a_text_is_shared_with_its_digest(rt: HostRuntime) -> Result<(), Fail> {
-    let first = text(rt.alloc(), b"abc")?;
-    assert!(rt; is_shared(&first, b"abc", DIGEST_OF_ABC)?);
+fn a_text_is_shared_with_its_bytes(rt: HostRuntime) -> Result<(), Fail> {
+    let first = text(rt.alloc(), FIRST)?;
+    let shared = first.shared()?;
+    assert!(rt; shared.bytes().as_slice() == FIRST);
+    assert!(rt; shared.is_same(&first));
     Ok(())
 }
 
-fn text_of(alloc: Global, number: usize) -> Result<SharedBytes, AllocError> {
+#[test]
+fn a_text_is_a_pointer_and_what_is_kept_of_it_has_24_bytes(rt: HostRuntime) {
+    assert!(rt; size_of::<SharedBytes>() == 8);
+    assert!(rt; size_of::<CountedText>() == 24);
+}
+
+fn text_of(alloc: Global, number: u32) -> Result<SharedBytes, AllocError> {
     match number {
         1 => text(alloc, FIRST),
         2 => text(alloc, SECOND),
@@ -54,7 +50,7 @@ fn text_of(alloc: Global, number: usize) -> Result<SharedBytes, AllocError> {
 }
 
 /// Which text this is, from 1 on.
-fn number_of(bytes: &[u8]) -> usize {
+fn number_of(bytes: &[u8]) -> u32 {
     if bytes == FIRST {
         1
     } else if bytes == SECOND {
@@ -65,7 +61,7 @@ fn number_of(bytes: &[u8]) -> usize {
 }
 
 /// Which text the tenant has at a key, 0 for none.
-fn at(pool: &TextPool, tenant: u32, key: usize) -> usize {
+fn at(pool: &TextPool, tenant: u32, key: u32) -> u32 {
     match pool.text(tenant, key) {
         Some(text) => number_of(text.as_slice()),
         None => 0,
@@ -73,7 +69,7 @@ fn at(pool: &TextPool, tenant: u32, key: usize) -> usize {
 }
 
 /// Which texts a tenant has at the first four keys.
-fn told(pool: &TextPool, tenant: u32) -> [usize; 4] {
+fn told(pool: &TextPool, tenant: u32) -> [u32; 4] {
     [
         at(pool, tenant, 0),
         at(pool, tenant, 1),
@@ -82,7 +78,7 @@ fn told(pool: &TextPool, tenant: u32) -> [usize; 4] {
     ]
 }
 
-fn given(alloc: Global, pool: &mut TextPool, step: &Step<'_>) -> Result<usize, AllocError> {
+fn given(alloc: Global, pool: &mut TextPool, step: &Step<'_>) -> Result<u32, AllocError> {
     match step.call {
         "hold" => pool.hold(step.tenant, text_of(alloc, step.number)?),
         "again" => pool.hold_again(step.tenant, step.number),
@@ -90,7 +86,7 @@ fn given(alloc: Global, pool: &mut TextPool, step: &Step<'_>) -> Result<usize, A
             pool.release(step.tenant, step.number);
             Ok(0)
         }
-        "same" => Ok(usize::from(pool.is_same(step.tenant, step.number, step.other))),
+        "same" => Ok(u32::from(pool.is_same(step.tenant, step.number, step.other))),
         _ => Ok(at(pool, step.tenant, step.number)),
     }
 }
@@ -101,7 +97,7 @@ fn given_at_last(
     alloc: Global,
     pool: &mut TextPool,
     step: &Step<'_>,
-) -> Result<usize, AllocError> {
+) -> Result<u32, AllocError> {
     let before = (told(pool, 7), told(pool, 8));
     if let Ok(number) = given(alloc, pool, step) {
         return Ok(number);

@@ -18,7 +18,7 @@ use Rattle.tenant_stores.proofs.Lists.{count-append, count-self}
 use Rattle.tenant_stores.proofs.Parts.{all_released-append, part_by}
 use Rattle.otlp_prepare.specs.Arrivals.{origin_view}
 use Rattle.otlp_prepare.specs.Arrivals as prepared
-use Rattle.otlp_prepare.specs.declared.noted.SpanOrigin.{SpanOrigin}
+use Rattle.otlp_prepare.specs.Origin.{OriginTexts}
 use Rattle.tenant_pipeline.specs.Posts.{all_keys, all_text_keys, keys_at}
 
 -- ---- keys
@@ -75,13 +75,13 @@ origins_stay f g (keys ∷ all) same =
 -- ---- all origins are held, one after the other
 
 -- those of the first origins are held, at these keys
-pub record AreHeld (origins : List SpanOrigin) (index : ℕ) (all : List TextKeys) (start p : Part TraceNote) : Type 0 where
+pub record AreHeld (origins : List OriginTexts) (index : ℕ) (all : List TextKeys) (start p : Part TraceNote) : Type 0 where
   pub own : (n : Counts) (pending held : List ℕ) → StoreInvariant n pending held start → HoldsAll (all_text_keys all) start p
   pub sound : (n : Counts) (pending held : List ℕ) → StoreInvariant n pending held start → StoreInvariant n pending (all_text_keys all ++ held) p
   pub texts : (n : Counts) (pending held : List ℕ) → StoreInvariant n pending held start → map (origin_at (text_at p.texts)) all ++ map origin_view (drop index origins) ≡ map origin_view origins
   pub shows : (n : Counts) (pending held shown : List ℕ) → StoreInvariant n pending held start → AreAmong shown pending → view n shown p ≡ view n shown start
 
-module _ (origins : List SpanOrigin) (index : ℕ) (all : List TextKeys) (keys : TextKeys) (start p q : Part TraceNote) (front : AreHeld origins index all start p)
+module _ (origins : List OriginTexts) (index : ℕ) (all : List TextKeys) (keys : TextKeys) (start p q : Part TraceNote) (front : AreHeld origins index all start p)
     (own : (n : Counts) (pending held : List ℕ) → StoreInvariant n pending held p → HoldsAll (text_keys keys) p q)
     (is_sound : (n : Counts) (pending held : List ℕ) → StoreInvariant n pending held p → StoreInvariant n pending (text_keys keys ++ held) q)
     (shows : (n : Counts) (pending held shown : List ℕ) → StoreInvariant n pending held p → AreAmong shown pending → view n shown q ≡ view n shown p)
@@ -102,7 +102,7 @@ module _ (origins : List SpanOrigin) (index : ℕ) (all : List TextKeys) (keys :
     more_sound n pending held sound =
         subst (λ (ks : List ℕ). StoreInvariant n pending ks q) (sym (keys-push_held all keys held)) (is_sound n pending (all_text_keys all ++ held) (front.sound n pending held sound))
 
-    more_texts : (origin : SpanOrigin) → origin ≡ get_or origins index origin → index < length origins →
+    more_texts : (origin : OriginTexts) → origin ≡ get_or origins index origin → index < length origins →
         ((n : Counts) (pending held : List ℕ) → StoreInvariant n pending held p → origin_at (text_at q.texts) keys ≡ origin_view origin) →
         (n : Counts) (pending held : List ℕ) → StoreInvariant n pending held start → map (origin_at (text_at q.texts)) (all ++ keys ∷ []) ++ map origin_view (drop (index + 1) origins) ≡ map origin_view origins
     more_texts origin item within text n pending held sound =
@@ -111,15 +111,15 @@ module _ (origins : List SpanOrigin) (index : ℕ) (all : List TextKeys) (keys :
         let stays = origins_stay (text_at p.texts) (text_at q.texts) all (λ t some. stay n pending behind reached t (let both = count-append t (all_text_keys all) held in omega (arith, both, some))) in
         let here = text n pending behind reached in
         let rest = map origin_view (drop (index + 1) origins) in
-        let next : drop index origins ≡ origin ∷ drop (index + 1) origins = drop_more origins index origin within ∙ ap (λ (x : SpanOrigin). x ∷ drop (index + 1) origins) (sym item) in
+        let next : drop index origins ≡ origin ∷ drop (index + 1) origins = drop_more origins index origin within ∙ ap (λ (x : OriginTexts). x ∷ drop (index + 1) origins) (sym item) in
         ap (λ (xs : List OriginData). xs ++ rest) (map-append (origin_at (text_at q.texts)) all (keys ∷ []))
         ∙ (append_assoc (map (origin_at (text_at q.texts)) all) (origin_at (text_at q.texts) keys ∷ []) rest
         ∙ (ap (λ (xs : List OriginData). xs ++ (origin_at (text_at q.texts) keys ∷ rest)) stays
         ∙ (ap (λ (x : OriginData). map (origin_at (text_at p.texts)) all ++ (x ∷ rest)) here
-        ∙ (ap (λ (xs : List SpanOrigin). map (origin_at (text_at p.texts)) all ++ map origin_view xs) (sym next)
+        ∙ (ap (λ (xs : List OriginTexts). map (origin_at (text_at p.texts)) all ++ map origin_view xs) (sym next)
         ∙ front.texts n pending held sound))))
 
-    pub one_more_held : (origin : SpanOrigin) (all' : List TextKeys) → origin ≡ get_or origins index origin → all' ≡ all ++ keys ∷ [] → index < length origins →
+    pub one_more_held : (origin : OriginTexts) (all' : List TextKeys) → origin ≡ get_or origins index origin → all' ≡ all ++ keys ∷ [] → index < length origins →
         ((n : Counts) (pending held : List ℕ) → StoreInvariant n pending held p → origin_at (text_at q.texts) keys ≡ origin_view origin) →
         AreHeld origins (index + 1) all' start q
     one_more_held origin all' item pushed within text = subst (λ (ks : List TextKeys). AreHeld origins (index + 1) ks start q) (sym pushed) (record {
@@ -175,7 +175,7 @@ given_back p start holds =
 -- ---- the origin of a span
 
 -- texts at keys, where they are those of origins, at an index
-pub origin_is : (f : ℕ → Option (List ℕ)) (all : List TextKeys) (origins : List SpanOrigin) (index : ℕ) → map (origin_at f) all ≡ map origin_view origins → index < length origins →
+pub origin_is : (f : ℕ → Option (List ℕ)) (all : List TextKeys) (origins : List OriginTexts) (index : ℕ) → map (origin_at f) all ≡ map origin_view origins → index < length origins →
     origin_at f (keys_at all index) ≡ prepared.origin_at origins index
 origin_is f all [] index same within = absurd (omega arith)
 origin_is f [] (origin ∷ origins) index same within = cc
@@ -185,7 +185,7 @@ origin_is f (keys ∷ all) (origin ∷ origins) (suc index) same within =
     origin_is f all origins index rest (omega (arith, within))
 
 -- as many keys as origins
-pub as_many : (f : ℕ → Option (List ℕ)) (all : List TextKeys) (origins : List SpanOrigin) → map (origin_at f) all ≡ map origin_view origins → length all ≡ length origins
+pub as_many : (f : ℕ → Option (List ℕ)) (all : List TextKeys) (origins : List OriginTexts) → map (origin_at f) all ≡ map origin_view origins → length all ≡ length origins
 as_many f [] [] same = refl
 as_many f [] (origin ∷ origins) same = cc
 as_many f (keys ∷ all) [] same = cc

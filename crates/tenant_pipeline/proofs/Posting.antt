@@ -29,7 +29,7 @@ use Rattle.otlp_prepare.specs.Arrivals.{arrival_with, arrivals_in, origin_view}
 use Rattle.otlp_prepare.specs.Arrivals as prepared
 use Rattle.otlp_prepare.specs.Prepared.{IsReady, AreReady}
 use Rattle.otlp_prepare.specs.declared.noted.NotedSpan.{NotedSpan}
-use Rattle.otlp_prepare.specs.declared.noted.SpanOrigin.{SpanOrigin}
+use Rattle.otlp_prepare.specs.Origin.{OriginTexts}
 use Rattle.tenant_pipeline.specs.declared.journal.Journal.{Journal}
 use Rattle.tenant_pipeline.specs.declared.pipeline.Pipeline.{Pipeline}
 use Rattle.tenant_pipeline.specs.Acts.{IsPosted}
@@ -292,7 +292,7 @@ count_of moment keys spans own0 own p0 p is =
 
 -- ---- a body's spans, with their origins held
 
-module _ (own : Pipeline) (p : Part TraceNote) (keys : List TextKeys) (origins : List SpanOrigin) (texts : map (origin_at (text_at p.texts)) keys ≡ map origin_view origins)
+module _ (own : Pipeline) (p : Part TraceNote) (keys : List TextKeys) (origins : List OriginTexts) (texts : map (origin_at (text_at p.texts)) keys ≡ map origin_view origins)
   where
     arrival_is : (span : NotedSpan) → span.origin < length origins → arrival_at p (keys_at keys span.origin) span.text ≡ prepared.arrival_in origins span
     arrival_is span within = ap (λ (o : OriginData). arrival_with o span.text) (origin_is (text_at p.texts) keys origins span.origin texts within)
@@ -319,7 +319,7 @@ module _ (own : Pipeline) (p : Part TraceNote) (keys : List TextKeys) (origins :
         let rest = arrivals_are spans ready.1 in
         λ i. one i ∷ rest i
 
-pub all_valid : (policies : List PolicyData) (origins : List SpanOrigin) (spans : List NotedSpan) → AreReady policies origins spans → AllByRecursion (λ a. is_valid a ≡ true) (arrivals_in origins spans)
+pub all_valid : (policies : List PolicyData) (origins : List OriginTexts) (spans : List NotedSpan) → AreReady policies origins spans → AllByRecursion (λ a. is_valid a ≡ true) (arrivals_in origins spans)
 all_valid policies origins [] ready = tt
 all_valid policies origins (span ∷ spans) ready = (ready.0.valid, all_valid policies origins spans ready.1)
 
@@ -406,7 +406,7 @@ pub record Body (moment : ℕ) (own : Pipeline) (p q : Part TraceNote) (keys : L
   pub back : HoldsAll (all_text_keys keys) p q
   pub state : state_of own q ≡ state_of own p
 
-pub body_is : (moment : ℕ) (own : Pipeline) (p q : Part TraceNote) (keys all : List TextKeys) (origins : List SpanOrigin) (spans : List NotedSpan) (policies : List PolicyData) (xs : List Arrival) →
+pub body_is : (moment : ℕ) (own : Pipeline) (p q : Part TraceNote) (keys all : List TextKeys) (origins : List OriginTexts) (spans : List NotedSpan) (policies : List PolicyData) (xs : List Arrival) →
     PipelineInvariantAt moment [] [] own p → keys ≡ all → policies ≡ policies_of own → AreReady policies origins spans → arrivals_in origins spans ≡ xs →
     ((n : Counts) (pending held : List ℕ) → StoreInvariant n pending held p → HoldsAll (all_text_keys all) p q) →
     ((n : Counts) (pending held : List ℕ) → StoreInvariant n pending held p → StoreInvariant n pending (all_text_keys all ++ held) q) →

@@ -32,7 +32,9 @@ mod send;
 mod step;
 mod timers;
 mod undo;
+mod usage;
 
 pub use law::drained_holds_none;
 pub use pipeline::{LATEST_MOMENT, Pipeline, RowCounts};
 pub use step::OwnStep;
+pub use usage::Usage;

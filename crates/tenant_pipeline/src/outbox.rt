@@ -36,7 +36,7 @@ fn spans_by_keys<'a>(
     alloc: Global,
     stores: &'a Stores<TraceNote>,
     tenant: u32,
-    keys: &[usize],
+    keys: &[u32],
 ) -> Result<Vec<&'a StoredSpan>, AllocError>
     ensures { IfOk result (λ spans. spans_in stores.now.texts spans.items ≡
         spans_at (part tenant stores.now).spans (part tenant stores.now).texts keys.now) }
@@ -57,7 +57,7 @@ pub(crate) fn encoded(
     stores: &Stores<TraceNote>,
     tenant: u32,
     moment: u64,
-    keys: &[usize],
+    keys: &[u32],
 ) -> Result<Batch, AllocError>
     ensures { IfOk result (λ batch. batch_view batch ≡
         as_sent (record {
@@ -93,7 +93,7 @@ fn all_encoded(
 }
 
 /// The keys of all spans of these batches, in their order.
-fn keys_of(alloc: Global, batches: &[span_batcher::Batch]) -> Result<Vec<usize>, AllocError>
+fn keys_of(alloc: Global, batches: &[span_batcher::Batch]) -> Result<Vec<u32>, AllocError>
     ensures { IfOk result (λ keys. keys.items ≡ spans_of batches.now) }
 {
     let mut keys = Vec::new(alloc);
@@ -111,7 +111,7 @@ pub(crate) struct GroupPlan {
     /// The same batches, as they are sent.
     pub sent: VecDeque<Batch>,
     /// The keys of their spans.
-    pub gone: Vec<usize>,
+    pub gone: Vec<u32>,
 }
 
 impl Pipeline {
@@ -120,7 +120,7 @@ impl Pipeline {
         &self,
         stores: &Stores<TraceNote>,
         moment: u64,
-        keys: &[usize],
+        keys: &[u32],
     ) -> Result<GroupPlan, AllocError>
         requires not_empty { 0 < length keys.now }
         requires moment { moment ≤ 2 ^ 62 }
@@ -215,7 +215,7 @@ impl Pipeline {
 
     /// The undecided spans at these keys leave together at a moment, in milliseconds, fill no batch, and are pending
     /// with what was. Where memory is refused, nothing has changed.
-    fn append_group(&mut self, moment: u64, keys: &[usize]) -> Result<(), AllocError>
+    fn append_group(&mut self, moment: u64, keys: &[u32]) -> Result<(), AllocError>
         requires not_empty { 0 < length keys.now }
         requires moment { moment ≤ 2 ^ 62 }
         requires timer { IsAfter (next_due self.old.batcher) moment }
@@ -243,7 +243,7 @@ impl Pipeline {
         stores: &Stores<TraceNote>,
         undo: &mut Undo,
         moment: u64,
-        keys: &[usize],
+        keys: &[u32],
     ) -> Result<(), AllocError>
         requires not_empty { 0 < length keys.now }
         requires moment { moment ≤ 2 ^ 62 }

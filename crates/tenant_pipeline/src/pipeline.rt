@@ -1,6 +1,6 @@
 //! What is a tenant's own.
 
-ghost use Rattle.std.specs.Prelude.{◌≡◌, [], IfOk};
+ghost use Rattle.std.specs.Prelude.{◌≡◌, [], IfOk, length};
 ghost use Rattle.tail_settings.specs.Section.{section_view};
 ghost use Rattle.tail_policy.specs.declared.note.TraceNote.{TraceNote as Note};
 ghost use Rattle.tenant_stores.specs.Counts.{no_rows};
@@ -10,10 +10,11 @@ ghost use Rattle.tenant_stores.specs.Promises.{OthersUnchanged};
 ghost use Rattle.tenant_rules.specs.Ready.{ready};
 ghost use Rattle.tenant_rules.specs.Retiring.{holds_none};
 ghost use Rattle.tenant_pipeline.specs.StateIn.{state_of, state_in};
-ghost use Rattle.tenant_pipeline.specs.Present.{rows_present};
+ghost use Rattle.tenant_pipeline.specs.Present.{rows_present, usage_of};
 ghost use Rattle.tenant_pipeline.specs.Invariant.{PipelineInvariantBy, PipelineInvariant, IsSwept, HasNonePending};
 ghost use Rattle.tenant_pipeline.specs.Steps.{StandsFor};
 
+use crate::usage::Usage;
 use decision_cache::{DecisionCaches, HashKeys};
 use drop_ledger::Ledger;
 use send_queue::SendQueue;
@@ -135,12 +136,35 @@ impl Pipeline {
         lesser(self.next_timer(stores), self.sender.ready())
     }
 
+    /// How full it is, and how full it may be. It takes no memory.
+    pub fn usage(&self) -> Usage
+        ensures { (p : Part Note) → PipelineInvariantBy self.now p → result
+            ≡ usage_of (state_of self.now p) }
+    {
+        Usage {
+            rows: self.rows_present(),
+            undecided_rows: self.rows_undecided(),
+            rows_limit: u64::from(self.section.tail_sampling.num_traces),
+            spans_limit: u64::from(self.section.max_spans),
+            queued_batches: self.sender.waiting() as u64,
+            queued_batches_limit: u64::from(self.sender.capacity()),
+        }
+    }
+
     /// How many of its rows are present: those that wait, and decided ones that late spans still follow.
-    pub fn rows_present(&self) -> u64
+    fn rows_present(&self) -> u64
         ensures { (p : Part Note) → PipelineInvariantBy self.now p → result
             ≡ rows_present (state_of self.now p) }
     {
         self.rows.opened.saturating_sub(self.rows.first)
+    }
+
+    /// How many of its rows wait for their decision.
+    fn rows_undecided(&self) -> u64
+        ensures { (p : Part Note) → PipelineInvariantBy self.now p → result
+            ≡ length (state_of self.now p).waiting }
+    {
+        self.rows.opened.saturating_sub(self.rows.decided)
     }
 
     /// Whether none of its spans waits for anything: each that was taken was exported or dropped.

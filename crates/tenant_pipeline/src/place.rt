@@ -204,7 +204,7 @@ impl Pipeline {
                 self.ledger.take(1);
                 journal
                     .placed
-                    .push_reserved(UndoEntry::Joined(number, joining.key, joining.former));
+                    .push_reserved(UndoEntry::Joined(number, joining.former));
                 Ok(())
             }
             Err(refused) => {
@@ -291,12 +291,9 @@ impl Pipeline {
             Ok(opening) => {
                 self.rows.opened = number;
                 self.ledger.take(1);
-                journal.placed.push_reserved(UndoEntry::Opened(
-                    number,
-                    opening.key,
-                    span.trace,
-                    opening.earlier,
-                ));
+                journal
+                    .placed
+                    .push_reserved(UndoEntry::Opened(number, opening.key, opening.earlier));
                 Ok(())
             }
             Err(refused) => {

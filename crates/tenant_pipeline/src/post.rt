@@ -55,10 +55,10 @@ fn hold_origin(
 {
     let keys = stores.hold_all(
         tenant,
-        origin.resource.as_ref(),
-        origin.resource_schema_url.as_ref(),
-        origin.scope.as_ref(),
-        origin.scope_schema_url.as_ref(),
+        origin.resource(),
+        origin.resource_schema_url(),
+        origin.scope(),
+        origin.scope_schema_url(),
     )?;
     match SharedKeys::of(alloc, tenant, keys) {
         Ok(shared) => Ok(shared),

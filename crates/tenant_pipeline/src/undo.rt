@@ -25,7 +25,7 @@ pub struct Undo {
     /// How many batches the queue took.
     pub offers: usize,
     /// The keys of the spans that left in batches. They are still stored.
-    pub gone: Vec<usize>,
+    pub gone: Vec<u32>,
 }
 
 impl Undo {

@@ -25,7 +25,7 @@ use std::alloc::{AllocError, Global};
 use std::marker::Model;
 use tail_policy::TraceNote;
 use tail_settings::Settings;
-use tenant_pipeline::{OwnStep, Pipeline};
+use tenant_pipeline::{OwnStep, Pipeline, Usage};
 use tenant_stores::Stores;
 use thiserror::Error;
 
@@ -77,7 +77,7 @@ impl Shard {
     ghost use Rattle.tenant_shard.specs.Chain.{ShardRuns, RunsByOwnSteps, StandsAfter};
     ghost use Rattle.tenant_shard.specs.Empty.{is_empty};
     ghost use Rattle.tenant_shard.specs.Stop.{IsStopped};
-    ghost use Rattle.tenant_shard.specs.Waiting.{IsWaiting, rows_of};
+    ghost use Rattle.tenant_shard.specs.Waiting.{IsWaiting, usage_in};
     ghost use Rattle.tenant_shard.specs.Whole.{AllCounted};
 
     /// Opens a shard of the tenants of the settings whose numbers stand in `members`, with no steps so far, which are
@@ -223,24 +223,24 @@ impl Shard {
         }
     }
 
-    /// How many rows of the tenant are present. None where it is no member.
-    fn rows(&self, tenant: u32) -> u64
-        ensures { result ≡ rows_of (kept_of tenant self.now) }
+    /// How full the tenant is, and how full it may be.
+    fn usage(&self, tenant: u32) -> Usage
+        ensures { result ≡ usage_in (kept_of tenant self.now) }
     {
         match place_of(&self.members, tenant) {
-            Ok(i) => self.members[i].rows_present(),
-            Err(_) => 0,
+            Ok(i) => self.members[i].usage(),
+            Err(_) => Usage::none(),
         }
     }
 
-    /// What the tenant and the shard wait for, and how many rows the tenant has. It takes no memory, and doesn't go
-    /// through the members.
+    /// What the tenant and the shard wait for, and how full the tenant is. It takes no memory, and doesn't go through
+    /// the members.
     pub fn waiting(&self, tenant: u32) -> Waiting
         ensures { IsWaiting self.now tenant result }
     {
         Waiting {
             is_empty: self.is_empty(tenant),
-            rows: self.rows(tenant),
+            usage: self.usage(tenant),
             tenant_ready: self.agenda.ready(tenant),
             shard_ready: self.agenda.next(),
         }

@@ -1,5 +1,5 @@
 -- What takes a change back.
-use Rattle.std.proofs.Common.{◌≡◌, ◌≢◌, ℕ, ◌+◌, ◌-◌, List, [], ◌∷◌, ◌++◌, refl, sym, ap, ◌∙◌, arith, Bool, true, false, Option, Some, None, eqb, bytes_eq, cond, length, take, subst, length-append}
+use Rattle.std.proofs.Common.{◌≡◌, ◌≢◌, ℕ, ◌+◌, ◌-◌, List, [], ◌∷◌, ◌++◌, refl, sym, ap, ◌∙◌, arith, Bool, true, false, Option, Some, None, IfSome, option_to_list, eqb, bytes_eq, cond, length, take, subst, length-append}
 use Rattle.std.proofs.lemmas.Bool.Decides.{nat_tests}
 use Rattle.std.proofs.lemmas.List.{take_at}
 use Rattle.std.proofs.lemmas.Slice.Eq.{bytes_eq-Decides}
@@ -7,8 +7,9 @@ use Rattle.std.specs.Cmp.Lexicographic.{nat_list_eq_equiv}
 use Rattle.std.proofs.Math.Path.{fun_ext}
 use Rattle.span_pool.specs.Stored.{StoredData}
 use Rattle.span_pool.specs.Pool.{with_span, without}
-use Rattle.trace_rows.specs.Part.{with_at, with_latest_row, joined, unjoined}
+use Rattle.trace_rows.specs.Part.{with_at, with_latest_row, joined, unjoined, latest_key}
 use Rattle.trace_rows.specs.declared.table.Row.{Row}
+use Rattle.trace_rows.proofs.Latest.{last_or-snoc}
 use Rattle.tenant_stores.specs.declared.undo.UndoEntry.{UndoEntry}
 use Rattle.tenant_stores.specs.declared.undo.UndoEntry.TheVariants.{Joined, Opened, Late}
 use Rattle.tenant_stores.specs.Part.{Part}
@@ -59,28 +60,35 @@ module _ {N : Type 0} where
         released ∙ (ap (λ (o : Option StoredData). all_released (text_keys_of o) q.texts) there ∙ (ap (all_released (text_keys span.keys)) texts ∙ holds.texts)),
       )
 
-  pub back_joined : (start p q r : Part N) (number key : ℕ) (former : N) → IsUndone (Joined number key former) start p
+  pub back_joined : (start p q r : Part N) (number : ℕ) (former : N) (latest : Option ℕ) → IsUndone (Joined number former) start p
+      → latest ≡ latest_key (p.rows number)
       → q.spans ≡ p.spans → q.texts ≡ p.texts → q.rows ≡ with_at number (unjoined former (p.rows number)) p.rows → q.latest_rows ≡ p.latest_rows
-      → Leaves (key ∷ []) q r → r ≡ start
-  back_joined start p q r number key former (span, row, note, middle, had, same, holds, joins) spans texts rows latest_rows leaves =
-      let left = left_again start middle q r key span joins.vacant (spans ∙ joins.spans) (texts ∙ joins.texts) holds leaves.spans leaves.texts in
+      → Leaves (option_to_list latest) q r → r ≡ start
+  back_joined start p q r number former latest (key, span, row, note, middle, had, same, holds, joins) is spans texts rows latest_rows left_by =
       let had' : middle.rows number ≡ Some row = ap (λ (f : ℕ → Option (Row N)). f number) holds.rows ∙ had in
       let at_number : p.rows number ≡ joined key note (middle.rows number) = ap (λ (f : ℕ → Option (Row N)). f number) joins.rows ∙ row_here number (joined key note (middle.rows number)) middle.rows in
+      let key_is : latest ≡ Some key = is ∙ (ap latest_key (at_number ∙ ap (joined key note) had') ∙ last_or-snoc None row.keys key) in
+      let leaves : Leaves (key ∷ []) q r = subst (λ (o : Option ℕ). Leaves (option_to_list o) q r) key_is left_by in
+      let left = left_again start middle q r key span joins.vacant (spans ∙ joins.spans) (texts ∙ joins.texts) holds leaves.spans leaves.texts in
       let back : unjoined former (p.rows number) ≡ Some row = ap (unjoined former) (at_number ∙ ap (joined key note) had') ∙ unjoin key note former row same in
       let whole : q.rows ≡ middle.rows = rows ∙ (ap (λ (o : Option (Row N)). with_at number o p.rows) back ∙ (ap (with_at number (Some row)) joins.rows ∙ row_restored middle.rows number (joined key note (middle.rows number)) (Some row) had')) in
       part_by r.spans start.spans r.texts start.texts r.rows start.rows r.latest_rows start.latest_rows left.0 left.1 (leaves.rows ∙ (whole ∙ holds.rows)) (leaves.latest_rows ∙ (latest_rows ∙ (joins.latest_rows ∙ holds.latest_rows)))
 
-  pub back_opened : (start p q r : Part N) (number key : ℕ) (trace : List ℕ) (earlier : Option ℕ) → IsUndone (Opened number key trace earlier) start p
-      → q.spans ≡ p.spans → q.texts ≡ p.texts → q.rows ≡ with_at number None p.rows → (p.latest_rows trace ≢ None → q.latest_rows ≡ with_latest_row trace earlier p.latest_rows)
+  pub back_opened : (start p q r : Part N) (number key : ℕ) (earlier : Option ℕ) → IsUndone (Opened number key earlier) start p
+      → q.spans ≡ p.spans → q.texts ≡ p.texts → q.rows ≡ with_at number None p.rows
+      → IfSome (p.rows number) (λ row. p.latest_rows row.trace ≢ None → q.latest_rows ≡ with_latest_row row.trace earlier p.latest_rows)
       → Leaves (key ∷ []) q r → r ≡ start
-  back_opened start p q r number key trace earlier (span, due, note, middle, none, latest_row, holds, opens) spans texts rows latest_rows leaves =
+  back_opened start p q r number key earlier (trace, span, due, note, middle, none, latest_row, holds, opens) spans texts rows latest_rows leaves =
       let left = left_again start middle q r key span opens.vacant (spans ∙ opens.spans) (texts ∙ opens.texts) holds leaves.spans leaves.texts in
       let none' : middle.rows number ≡ None = ap (λ (f : ℕ → Option (Row N)). f number) holds.rows ∙ none in
       let seat' : middle.latest_rows trace ≡ earlier = ap (λ (f : List ℕ → Option ℕ). f trace) holds.latest_rows ∙ latest_row in
       let there : p.latest_rows trace ≡ Some number = ap (λ (f : List ℕ → Option ℕ). f trace) opens.latest_rows ∙ seat_here trace (Some number) middle.latest_rows in
       let some : p.latest_rows trace ≢ None = λ e. absurd (is_some (sym there ∙ e)) in
+      let at_number : p.rows number ≡ Some (new_row trace due key note) = ap (λ (f : ℕ → Option (Row N)). f number) opens.rows ∙ row_here number (Some (new_row trace due key note)) middle.rows in
+      let restored : p.latest_rows trace ≢ None → q.latest_rows ≡ with_latest_row trace earlier p.latest_rows =
+      subst (λ (o : Option (Row N)). IfSome o (λ (row : Row N). p.latest_rows row.trace ≢ None → q.latest_rows ≡ with_latest_row row.trace earlier p.latest_rows)) at_number latest_rows in
       let whole : q.rows ≡ middle.rows = rows ∙ (ap (with_at number None) opens.rows ∙ row_restored middle.rows number (Some (new_row trace due key note)) None none') in
-      let seats_whole : q.latest_rows ≡ middle.latest_rows = latest_rows some ∙ (ap (with_latest_row trace earlier) opens.latest_rows ∙ seat_restored middle.latest_rows trace (Some number) earlier seat') in
+      let seats_whole : q.latest_rows ≡ middle.latest_rows = restored some ∙ (ap (with_latest_row trace earlier) opens.latest_rows ∙ seat_restored middle.latest_rows trace (Some number) earlier seat') in
       part_by r.spans start.spans r.texts start.texts r.rows start.rows r.latest_rows start.latest_rows left.0 left.1 (leaves.rows ∙ (whole ∙ holds.rows)) (leaves.latest_rows ∙ (seats_whole ∙ holds.latest_rows))
     where
       is_some : {n : ℕ} → Some n ≡ None → ⊥

@@ -20,11 +20,11 @@ pub record HoldsAll {N : Type 0} (keys : List ℕ) (old new : Part N) : Type 0 w
 -- left nothing
 abbrev pub IsUndone : {N : Type 0} → UndoEntry N → Part N → Part N → Type 0
 IsUndone Left old new = new ≡ old
-IsUndone {N} (Joined number key former) old new =
-    (span : StoredData) × (row : Row N) × (note : N) × (middle : Part N) × (old.rows number ≡ Some row)
+IsUndone {N} (Joined number former) old new =
+    (key : ℕ) × (span : StoredData) × (row : Row N) × (note : N) × (middle : Part N) × (old.rows number ≡ Some row)
     × (row.note ≡ former) × HoldsAll (text_keys span.keys) old middle × Joins number key span note middle new
-IsUndone {N} (Opened number key trace earlier) old new =
-    (span : StoredData) × (due : ℕ) × (note : N) × (middle : Part N) × (old.rows number ≡ None)
+IsUndone {N} (Opened number key earlier) old new =
+    (trace : List ℕ) × (span : StoredData) × (due : ℕ) × (note : N) × (middle : Part N) × (old.rows number ≡ None)
     × (old.latest_rows trace ≡ earlier) × HoldsAll (text_keys span.keys) old middle
     × Opens number key due trace span note middle new
 IsUndone {N} (Late key) old new =

@@ -64,7 +64,7 @@ impl<N: Drop> Stores<N> {
     }
 
     /// The tenant's span at a key.
-    pub fn span(&self, tenant: u32, key: usize) -> Option<&StoredSpan>
+    pub fn span(&self, tenant: u32, key: u32) -> Option<&StoredSpan>
         ensures { option_copied result ≡ (part tenant self.now).spans key }
     {
         self.spans.owned(tenant, key)
@@ -255,7 +255,7 @@ impl<N: Drop> Stores<N> {
 
     /// The span is stored, and waits for a batch: its row was decided and sampled before it came. The texts that the
     /// span names were held for it. The answer is its key.
-    pub fn keep_late(&mut self, span: StoredSpan) -> Result<usize, AllocError>
+    pub fn keep_late(&mut self, span: StoredSpan) -> Result<u32, AllocError>
         ensures own_part { IfOk result (λ key. Waits key span (part span.owner self.old)
             (part span.owner self.new)) }
         ensures store_invariant { IfOk result
@@ -304,7 +304,7 @@ impl<N: Drop> Stores<N> {
     }
 
     /// The tenant's spans at these keys leave, each with its uses of texts. It takes no memory.
-    pub fn flush(&mut self, tenant: u32, keys: &[usize])
+    pub fn flush(&mut self, tenant: u32, keys: &[u32])
         ensures own_part { Leaves keys.now (part tenant self.old) (part tenant self.new) }
         ensures store_invariant { WhereLeave keys.now (part tenant self.old)
             (λ n left held. StoreInvariant n left held (part tenant self.new)) }
@@ -356,12 +356,13 @@ impl<N: Drop> Stores<N> {
     {
         match placed {
             UndoEntry::Left => {}
-            UndoEntry::Joined(number, key, former) => {
-                self.rows.undo_join(tenant, number, former);
-                self.leave(tenant, key);
+            UndoEntry::Joined(number, former) => {
+                if let Some(key) = self.rows.undo_join(tenant, number, former) {
+                    self.leave(tenant, key);
+                }
             }
-            UndoEntry::Opened(number, key, trace, earlier) => {
-                self.rows.undo_open(tenant, number, trace, earlier);
+            UndoEntry::Opened(number, key, earlier) => {
+                self.rows.undo_open(tenant, number, earlier);
                 self.leave(tenant, key);
             }
             UndoEntry::Late(key) => {
@@ -383,7 +384,7 @@ impl<N: Drop> Stores<N> {
     }
 
     /// The tenant's span at this key leaves, with its uses of texts.
-    fn leave(&mut self, tenant: u32, key: usize)
+    fn leave(&mut self, tenant: u32, key: u32)
         ensures own_part { Leaves (key ∷ []) (part tenant self.old) (part tenant self.new) }
         ensures others_unchanged { OthersUnchanged tenant self.old self.new }
     {
@@ -402,7 +403,7 @@ fn open_row<N: Drop>(
     number: u64,
     due: u64,
     trace: [u8; 16],
-    key: usize,
+    key: u32,
     note: N,
 ) -> Result<Option<u64>, AllocError>
     requires { rows_part tenant rows.old number ≡ None }

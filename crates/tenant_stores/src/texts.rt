@@ -19,7 +19,7 @@ pub(crate) enum TextRequest<'a> {
     /// This text.
     New(&'a SharedBytes),
     /// The text at this key.
-    Again(usize),
+    Again(u32),
 }
 
 /// This text, where there is one.
@@ -35,7 +35,7 @@ pub(crate) fn wanted_new(text: Option<&SharedBytes>) -> TextRequest<'_>
 }
 
 /// The text at this key, where there is one.
-pub(crate) fn wanted_again<'a>(key: Option<usize>) -> TextRequest<'a>
+pub(crate) fn wanted_again<'a>(key: Option<u32>) -> TextRequest<'a>
     ensures { result ≡ again_of key }
 {
     match key {
@@ -49,7 +49,7 @@ fn hold_one(
     texts: &mut TextPool,
     tenant: u32,
     wanted: TextRequest<'_>,
-) -> Result<Option<usize>, AllocError>
+) -> Result<Option<u32>, AllocError>
     ensures keys_held { IfOk result (λ key. WhereKnown (wanted.entry ∷ []) (part tenant texts.old)
         (AreHeld (option_to_list key) (part tenant texts.old) (part tenant texts.new))) }
     ensures text { IfOk result (λ key. WhereKnown (wanted.entry ∷ []) (part tenant texts.old)
@@ -77,7 +77,7 @@ fn hold_two(
     tenant: u32,
     first: TextRequest<'_>,
     second: TextRequest<'_>,
-) -> Result<(Option<usize>, Option<usize>), AllocError>
+) -> Result<(Option<u32>, Option<u32>), AllocError>
     ensures keys_held { IfOk result (λ keys. WhereKnown (first.entry ∷ second.entry ∷ [])
         (part tenant texts.old) (AreHeld (option_to_list keys.0 ++ option_to_list keys.1)
         (part tenant texts.old) (part tenant texts.new))) }
@@ -150,7 +150,7 @@ pub(crate) fn release_all(texts: &mut TextPool, tenant: u32, keys: TextKeys)
 }
 
 /// One use less of the text with this key, where there is a key.
-fn release(texts: &mut TextPool, tenant: u32, key: Option<usize>)
+fn release(texts: &mut TextPool, tenant: u32, key: Option<u32>)
     ensures uses_removed { part tenant texts.new ≡ all_released (option_to_list key)
         (part tenant texts.old) }
     ensures others_unchanged { OtherTextsUnchanged tenant texts.old texts.new }

@@ -4,7 +4,7 @@
 #[derive(Drop)]
 pub struct Joining<N> {
     /// The span's key.
-    pub key: usize,
+    pub key: u32,
     /// The row's note before this span.
     pub former: N,
 }
@@ -13,7 +13,7 @@ pub struct Joining<N> {
 #[derive(Clone, Copy, Debug, PartialEq, Eq)]
 pub struct Opening {
     /// The span's key.
-    pub key: usize,
+    pub key: u32,
     /// The number of the trace's latest row before this one.
     pub earlier: Option<u64>,
 }
@@ -23,10 +23,10 @@ pub struct Opening {
 pub enum UndoEntry<N> {
     /// Nothing.
     Left,
-    /// It joined a row: the row's number, the span's key, and the row's note until then.
-    Joined(u64, usize, N),
-    /// It opened a row: the row's number, the span's key, the trace, and the trace's latest row until then.
-    Opened(u64, usize, [u8; 16], Option<u64>),
+    /// It joined a row: the row's number, and its note until then. The span's key is the row's latest.
+    Joined(u64, N),
+    /// It opened a row: the row's number, the span's key, and the latest row of its trace until then.
+    Opened(u64, u32, Option<u64>),
     /// It came late to a row that was sampled, and waits for a batch: its key.
-    Late(usize),
+    Late(u32),
 }

@@ -7,8 +7,8 @@
 //! digests, and at bytes only where both leave it open. So no length of a text makes it dear, no order in which texts
 //! come does, and nothing is asked of the caller.
 //!
-//! A [`SharedBytes`] is made with its SHA-256 (FIPS 180-4), which costs time by its length. That can be done before the
-//! pool is at hand. Equal digests are never taken for equal texts.
+//! A [`SharedBytes`] is made with the first bytes of its SHA-256 (FIPS 180-4), which costs time by its length. That can
+//! be done before the pool is at hand. Equal digests are never taken for equal texts.
 //!
 //! It stands on `text_slice`, and the library's `sha2` and `slab`.
 #![tactic(auto)]

@@ -7,7 +7,7 @@ ghost use Rattle.text_pool.specs.Part.{part, with_text, with_uses, held, release
 use crate::shared_bytes::SharedBytes;
 use slab::Slab;
 use std::alloc::{AllocError, Global};
-use std::collections::BTreeMap;
+use std::collections::BTreeSet;
 use std::marker::Model;
 use text_slice::TextSlice;
 
@@ -27,8 +27,8 @@ pub struct CountedText {
 #[derive(Drop)]
 pub struct TextPool {
     texts: Slab<CountedText>,
-    // By tenant and digest, a key that may have the text. A text is looked at before its key is taken from here.
-    keys: BTreeMap<(u32, [u8; 32]), usize>,
+    // The digest of each text, its owner and its key. A text is looked at before its key is taken from here.
+    keys: BTreeSet<(u64, u32, u32)>,
 }
 
 impl Model for TextPool {
@@ -47,12 +47,12 @@ impl TextPool {
     {
         TextPool {
             texts: Slab::new(alloc),
-            keys: BTreeMap::new(alloc),
+            keys: BTreeSet::new(alloc),
         }
     }
 
     /// One use more of a text of the tenant's, which is kept from now on if it wasn't. The answer is its key.
-    pub fn hold(&mut self, tenant: u32, text: SharedBytes) -> Result<usize, AllocError>
+    pub fn hold(&mut self, tenant: u32, text: SharedBytes) -> Result<u32, AllocError>
         ensures own_part { IfOk result (λ key. part tenant self.new ≡
             with_text key (held tenant text (part tenant self.old key)) (part tenant self.old)) }
         ensures same { IfOk result (λ key. IfSome (part tenant self.old key)
@@ -73,7 +73,7 @@ impl TextPool {
     /// One use more of the tenant's text at this key, of which nothing is looked up. The answer is the key under which
     /// that use is kept, another one only where this one's uses can't be counted any more. Where the tenant has no text
     /// there, nothing changes.
-    pub fn hold_again(&mut self, tenant: u32, key: usize) -> Result<usize, AllocError>
+    pub fn hold_again(&mut self, tenant: u32, key: u32) -> Result<u32, AllocError>
         ensures own_part { IfOk result (λ again. IfSome (part tenant self.old key)
             (λ kept. part tenant self.new ≡ with_text again
             (held tenant kept.text (part tenant self.old again)) (part tenant self.old))) }
@@ -102,33 +102,51 @@ impl TextPool {
     }
 
     /// The key of the tenant's text and its uses, where the key is known and one more use can be counted.
-    fn known(&self, tenant: u32, text: &SharedBytes) -> Option<(usize, u64)>
+    fn known(&self, tenant: u32, text: &SharedBytes) -> Option<(u32, u64)>
         ensures known { IfSome result (λ found. part tenant self.now found.0 ≡
             Some (record { owner = tenant; text = text.now; uses = found.1 })) }
         ensures uses_bounded { IfSome result (λ found. found.1 + 1 < 2 ^ 64) }
     {
-        let key = *self.keys.get(&(tenant, text.digest()))?;
+        let digest = text.digest();
+        for place in self.keys.range((digest, tenant, 0)..) {
+            let (found, owner, key) = *place;
+            if found != digest || owner != tenant {
+                return None;
+            }
+            if let Some(uses) = self.uses_of(tenant, key, text) {
+                return Some((key, uses));
+            }
+        }
+        None
+    }
+
+    /// For how many the tenant's text at this key is kept, where it is this one and one use more can be counted.
+    fn uses_of(&self, tenant: u32, key: u32, text: &SharedBytes) -> Option<u64>
+        ensures known { IfSome result (λ uses. part tenant self.now key ≡
+            Some (record { owner = tenant; text = text.now; uses = uses })) }
+        ensures uses_bounded { IfSome result (λ uses. uses + 1 < 2 ^ 64) }
+    {
         let kept = self.owned(tenant, key)?;
         if kept.uses < u64::MAX && kept.text.is_same(text) {
-            Some((key, kept.uses))
+            Some(kept.uses)
         } else {
             None
         }
     }
 
     /// The text at this key is kept for so many.
-    fn set_uses(&mut self, key: usize, uses: u64)
+    fn set_uses(&mut self, key: u32, uses: u64)
         ensures changed { get self.new key ≡ with_uses uses (get self.old key) }
         ensures others_unchanged { (other : ℕ) → other ≢ key
             → get self.new other ≡ get self.old other }
     {
-        if let Some(kept) = self.texts.get_mut(key) {
+        if let Some(kept) = self.texts.get_mut(key as usize) {
             kept.uses = uses;
         }
     }
 
-    /// A text comes under a key that was vacant.
-    fn put(&mut self, tenant: u32, text: SharedBytes) -> Result<usize, AllocError>
+    /// A text comes under a key that was vacant. It is refused where memory is, or where that key is 2^32 or more.
+    fn put(&mut self, tenant: u32, text: SharedBytes) -> Result<u32, AllocError>
         ensures vacant { IfOk result (λ key. part tenant self.old key ≡ None) }
         ensures own_part { IfOk result (λ key. part tenant self.new ≡
             with_text key (held tenant text None) (part tenant self.old)) }
@@ -136,20 +154,21 @@ impl TextPool {
             → part other self.new ≡ part other self.old }
         ensures on_refusal { OnErr result (part tenant self.new ≡ part tenant self.old) }
     {
+        let Ok(key) = u32::try_from(self.texts.vacant_key()) else {
+            return Err(AllocError);
+        };
         self.texts.reserve(1)?;
-        self.keys
-            .insert((tenant, text.digest()), self.texts.vacant_key())?;
-        Ok(
-            self.texts.insert_reserved(CountedText {
-                owner: tenant,
-                text,
-                uses: 1,
-            }),
-        )
+        self.keys.insert((text.digest(), tenant, key))?;
+        self.texts.insert_reserved(CountedText {
+            owner: tenant,
+            text,
+            uses: 1,
+        });
+        Ok(key)
     }
 
     /// One use less of the tenant's text at this key, which leaves with the last one. It takes no memory.
-    pub fn release(&mut self, tenant: u32, key: usize)
+    pub fn release(&mut self, tenant: u32, key: u32)
         ensures own_part { part tenant self.new ≡
             with_text key (released (part tenant self.old key)) (part tenant self.old) }
         ensures others_unchanged { (other : ℕ) → other ≢ tenant
@@ -167,26 +186,23 @@ impl TextPool {
     }
 
     /// The text at this key leaves, and what led to it.
-    fn remove(&mut self, tenant: u32, key: usize)
+    fn remove(&mut self, tenant: u32, key: u32)
         requires { ContainsKey self.old key }
         ensures { Updates self.old self.new key None }
     {
-        let kept = self.texts.remove(key);
-        let place = (tenant, kept.text.digest());
-        if self.keys.get(&place) == Some(&key) {
-            self.keys.remove(&place);
-        }
+        let kept = self.texts.remove(key as usize);
+        self.keys.remove(&(kept.text.digest(), tenant, key));
     }
 
     /// The tenant's text at a key.
-    pub fn text(&self, tenant: u32, key: usize) -> Option<&TextSlice>
+    pub fn text(&self, tenant: u32, key: u32) -> Option<&TextSlice>
         ensures { option_copied result ≡ text_of (part tenant self.now key) }
     {
         Some(self.owned(tenant, key)?.text.bytes())
     }
 
     /// Whether the tenant's texts at two keys are the same, or missing at both.
-    pub fn is_same(&self, tenant: u32, one: usize, other: usize) -> bool
+    pub fn is_same(&self, tenant: u32, one: u32, other: u32) -> bool
         ensures { result ≡ same_text (part tenant self.now one) (part tenant self.now other) }
     {
         if one == other {
@@ -199,10 +215,10 @@ impl TextPool {
         }
     }
 
-    fn owned(&self, tenant: u32, key: usize) -> Option<&CountedText>
+    fn owned(&self, tenant: u32, key: u32) -> Option<&CountedText>
         ensures { option_copied result ≡ part tenant self.now key }
     {
-        match self.texts.get(key) {
+        match self.texts.get(key as usize) {
             Some(kept) if kept.owner == tenant => Some(kept),
             _ => None,
         }

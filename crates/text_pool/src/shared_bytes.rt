@@ -1,73 +1,93 @@
 //! A text and its digest.
 
 ghost use Rattle.std.specs.Prelude.{◌≡◌, IfOk, bytes_eq};
-ghost use Rattle.sha2.specs.Sha256.{sha256};
+ghost use Rattle.text_pool.specs.Digest.{text_digest};
 
 use sha2::{Digest, Sha256};
-use std::alloc::AllocError;
+use std::alloc::{AllocError, Global};
 use std::marker::Model;
+use std::sync::Arc;
 use text_slice::TextSlice;
 
-/// Bytes with their SHA-256 (FIPS 180-4), by which different ones are told apart at once.
+/// A text with the first 8 bytes of its SHA-256 (FIPS 180-4).
+#[derive(Debug, Drop)]
+struct DigestedText {
+    bytes: TextSlice,
+    digest: u64,
+}
+
+/// Bytes, and a digest by which different ones are told apart at once: a pointer, and 48 bytes that all who share it
+/// have together. The digest is the first 8 bytes of the SHA-256 (FIPS 180-4). Who makes two texts of one digest gains
+/// nothing: bytes are compared where digests are equal, and a pool finds each of the two under its own key.
 #[derive(Debug, Drop)]
 pub struct SharedBytes {
-    bytes: TextSlice,
-    digest: [u8; 32],
+    text: Arc<DigestedText>,
 }
 
 impl Model for SharedBytes {
     ghost use Rattle.std.specs.Prelude.{◌≡◌, List, ℕ};
-    ghost use Rattle.sha2.specs.Sha256.{sha256};
+    ghost use Rattle.text_pool.specs.Digest.{text_digest};
 
     ghost Value = { List ℕ };
 
-    ghost view = { λ t. t.bytes };
+    ghost view = { λ t. t.text.value.bytes };
 
-    ghost invariant = { λ t. t.digest ≡ sha256 t.bytes };
+    ghost invariant = { λ t. t.text.value.digest ≡ text_digest t.text.value.bytes };
+}
+
+/// The first 8 bytes of the SHA-256, as a big-endian number.
+fn digest_of(bytes: &[u8]) -> u64
+    ensures { result ≡ text_digest bytes.now }
+{
+    let whole = Sha256::digest(bytes);
+    let mut front = [0; 8];
+    front.copy_from_slice(&whole[..8]);
+    u64::from_be_bytes(front)
 }
 
 impl SharedBytes {
-    /// These bytes. It takes no memory, and time by their length.
-    pub fn of(text: TextSlice) -> SharedBytes
-        ensures { result ≡ text }
+    /// These bytes. It takes time by their length, and is refused where memory is.
+    pub fn of(alloc: Global, text: TextSlice) -> Result<SharedBytes, AllocError>
+        ensures { IfOk result (λ shared. shared ≡ text) }
     {
-        let digest = Sha256::digest(text.as_slice());
-        SharedBytes {
-            bytes: text,
-            digest,
-        }
+        let digest = digest_of(text.as_slice());
+        let text = Arc::new(
+            alloc,
+            DigestedText {
+                bytes: text,
+                digest,
+            },
+        )?;
+        Ok(SharedBytes { text })
     }
 
     /// The same text: the bytes are shared, and none is looked at. It takes no memory, and is refused only where the
-    /// owners of the bytes can't be counted any more.
+    /// owners can't be counted any more.
     pub fn shared(&self) -> Result<SharedBytes, AllocError>
         ensures { IfOk result (λ text. text ≡ self.now) }
     {
-        let bytes = self.bytes.shared()?;
-        Ok(SharedBytes {
-            bytes,
-            digest: self.digest,
-        })
+        let text = self.text.clone()?;
+        Ok(SharedBytes { text })
     }
 
     /// The bytes.
     pub fn bytes(&self) -> &TextSlice
         ensures { result.now ≡ self.now }
     {
-        &self.bytes
+        &self.text.bytes
     }
 
     /// Whether both are the same bytes. Where their digests differ, none is looked at.
     pub fn is_same(&self, other: &SharedBytes) -> bool
         ensures { result ≡ bytes_eq self.now other.now }
     {
-        self.digest == other.digest && self.bytes == other.bytes
+        self.text.digest == other.text.digest && self.text.bytes == other.text.bytes
     }
 
-    /// The SHA-256 of the bytes.
-    pub fn digest(&self) -> [u8; 32]
-        ensures { result ≡ sha256 self.now }
+    /// The first 8 bytes of the SHA-256 of the bytes.
+    pub(crate) fn digest(&self) -> u64
+        ensures { result ≡ text_digest self.now }
     {
-        self.digest
+        self.text.digest
     }
 }

@@ -1,6 +1,7 @@
 -- One tenant's part of the table, as functions of its own row numbers and traces: this project's own rule.
 use Rattle.std.specs.Prelude.{◌≡◌, ℕ, Bool, false, take, length, ◌-◌, List, [], ◌∷◌, ◌++◌, Option, Some, None, option_map, if◌then◌else◌, ◌==◌, bytes_eq}
 use Rattle.std.specs.Box.{box_value}
+use Rattle.std.specs.List.{last_or}
 use Rattle.trace_rows.specs.Maps.{at, latest_cmp, latest_rows_of}
 use Rattle.trace_rows.specs.declared.table.Row.{Row}
 use Rattle.trace_rows.specs.declared.table.TraceRows.{TraceRows}
@@ -57,6 +58,10 @@ without_latest_row number (Some trace) latest_rows = if is_number number (latest
 abbrev pub keys_of : {N : Type 0} → Option (Row N) → List ℕ
 keys_of None = []
 keys_of (Some row) = row.keys
+
+-- the latest key of a row, where it has one
+abbrev pub latest_key : {N : Type 0} → Option (Row N) → Option ℕ
+latest_key row = last_or None (keys_of row)
 
 -- what is noted of a row; this where there is no row
 abbrev pub note_of : {N : Type 0} → N → Option (Row N) → N

@@ -1,6 +1,7 @@
 //! Keys of spans.
 
-ghost use Rattle.std.specs.Prelude.{◌≡◌, [], ◌∷◌, ◌++◌, IfOk, OnOk, OnErr, take, length, ◌-◌};
+ghost use Rattle.std.specs.Prelude.{◌≡◌, [], ◌∷◌, ◌++◌, IfOk, OnOk, OnErr, None, take, length, ◌-◌};
+ghost use Rattle.std.specs.List.{last_or};
 
 use std::alloc::{AllocError, Global};
 use std::marker::Model;
@@ -8,7 +9,7 @@ use std::marker::Model;
 /// Keys of spans in order of arrival, which contracts see as a list.
 #[derive(Drop)]
 pub struct Keys {
-    items: Vec<usize>,
+    items: Vec<u32>,
 }
 
 impl Model for Keys {
@@ -30,7 +31,7 @@ impl Keys {
     }
 
     /// One key.
-    pub fn one(alloc: Global, key: usize) -> Result<Self, AllocError>
+    pub fn one(alloc: Global, key: u32) -> Result<Self, AllocError>
         ensures { IfOk result (λ keys. keys ≡ key ∷ []) }
     {
         let mut items = Vec::new(alloc);
@@ -39,14 +40,14 @@ impl Keys {
     }
 
     /// The keys, borrowed.
-    pub fn as_slice(&self) -> &[usize]
+    pub fn as_slice(&self) -> &[u32]
         ensures { result.now ≡ self.now }
     {
         self.items.as_slice()
     }
 
     /// One more key, behind the others.
-    pub fn push(&mut self, key: usize) -> Result<(), AllocError>
+    pub fn push(&mut self, key: u32) -> Result<(), AllocError>
         ensures on_success { OnOk result (self.new ≡ self.old ++ key ∷ []) }
         ensures on_refusal { OnErr result (self.new ≡ self.old) }
     {
@@ -54,10 +55,11 @@ impl Keys {
         Ok(())
     }
 
-    /// Takes back the latest key, if there is one. Its room stays.
-    pub fn pop(&mut self)
-        ensures { self.new ≡ take (length self.old - 1) self.old }
+    /// Takes back the latest key, if there is one, and answers it. Its room stays.
+    pub fn pop(&mut self) -> Option<u32>
+        ensures latest { result ≡ last_or None self.old }
+        ensures rest { self.new ≡ take (length self.old - 1) self.old }
     {
-        let _ = self.items.pop();
+        self.items.pop()
     }
 }

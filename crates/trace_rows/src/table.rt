@@ -1,7 +1,7 @@
 //! The table of rows.
 
-ghost use Rattle.std.specs.Prelude.{◌≡◌, ◌≢◌, ℕ, IfOk, OnOk, OnErr, Some, None, true, option_copied};
-ghost use Rattle.trace_rows.specs.Part.{rows_part, latest_rows_part, with_at, with_latest_row, joined, unjoined, settled, without_latest_row, keys_of, note_of, trace_in, IsSame};
+ghost use Rattle.std.specs.Prelude.{◌≡◌, ◌≢◌, ℕ, IfOk, IfSome, OnOk, OnErr, Some, None, true, option_copied};
+ghost use Rattle.trace_rows.specs.Part.{rows_part, latest_rows_part, with_at, with_latest_row, joined, unjoined, settled, latest_key, without_latest_row, keys_of, note_of, trace_in, IsSame};
 
 use crate::keys::Keys;
 use crate::latest_rows::LatestRows;
@@ -91,7 +91,7 @@ impl<N: Drop> TraceRows<N> {
 
     /// One more key in the row, whose note is this one from now on. The answer is the note that it had. Where there is
     /// no such row, nothing changes, and the answer is the note that came; where memory is refused, that is dropped.
-    pub fn join(&mut self, tenant: u32, number: u64, key: usize, note: N) -> Result<N, AllocError>
+    pub fn join(&mut self, tenant: u32, number: u64, key: u32, note: N) -> Result<N, AllocError>
         ensures former { IfOk result (λ former. former ≡ note_of note
             (rows_part tenant self.old number)) }
         ensures rows { OnOk result (rows_part tenant self.new ≡
@@ -111,8 +111,10 @@ impl<N: Drop> TraceRows<N> {
         Ok(std::mem::replace(&mut row.note, note))
     }
 
-    /// Takes back the latest key of the row, and its note is the former one again. It takes no memory.
-    pub fn undo_join(&mut self, tenant: u32, number: u64, former: N)
+    /// Takes back the latest key of the row, which is the answer, and its note is the former one again. It takes no
+    /// memory.
+    pub fn undo_join(&mut self, tenant: u32, number: u64, former: N) -> Option<u32>
+        ensures key { result ≡ latest_key (rows_part tenant self.old number) }
         ensures rows { rows_part tenant self.new ≡
             with_at number (unjoined former (rows_part tenant self.old number))
             (rows_part tenant self.old) }
@@ -120,24 +122,30 @@ impl<N: Drop> TraceRows<N> {
         ensures others_unchanged { (other : ℕ) → other ≢ tenant → IsSame other self.old self.new }
     {
         let Some(boxed) = self.rows.get_mut(&(tenant, Reverse(number))) else {
-            return;
+            return None;
         };
         let row = boxed.as_mut();
-        row.keys.pop();
         row.note = former;
+        row.keys.pop()
     }
 
     /// Takes back the row that opened, without memory. It is the latest of its trace; before it `earlier` was, as
-    /// `open` answered.
-    pub fn undo_open(&mut self, tenant: u32, number: u64, trace: [u8; 16], earlier: Option<u64>)
+    /// `open` answered. Where there is no such row, nothing changes.
+    pub fn undo_open(&mut self, tenant: u32, number: u64, earlier: Option<u64>)
         ensures rows { rows_part tenant self.new ≡ with_at number None (rows_part tenant self.old) }
-        ensures latest_rows { latest_rows_part tenant self.old trace ≢ None →
-            latest_rows_part tenant self.new ≡ with_latest_row trace earlier
-            (latest_rows_part tenant self.old) }
+        ensures latest_rows { IfSome (rows_part tenant self.old number) (λ row.
+            latest_rows_part tenant self.old row.trace ≢ None →
+            latest_rows_part tenant self.new ≡ with_latest_row row.trace earlier
+            (latest_rows_part tenant self.old)) }
+        ensures none { rows_part tenant self.old number ≡ None
+            → latest_rows_part tenant self.new ≡ latest_rows_part tenant self.old }
         ensures others_unchanged { (other : ℕ) → other ≢ tenant → IsSame other self.old self.new }
     {
-        self.rows.remove(&(tenant, Reverse(number)));
-        self.latest_rows.restore(tenant, trace, earlier);
+        let Some(boxed) = self.rows.remove(&(tenant, Reverse(number))) else {
+            return;
+        };
+        let row = Box::into_inner(boxed);
+        self.latest_rows.restore(tenant, row.trace, earlier);
     }
 
     /// The row is decided: it keeps the verdict, and the answer is the keys that it had. It takes no memory.

@@ -12,9 +12,10 @@ use Rattle.machine_hub.specs.Runs.{entry}
 use Rattle.machine_hub.specs.Seats.{seat_after, seat_refused, IsNoted}
 use Rattle.shard_machine.specs.Run.{Logged}
 use Rattle.shared_hub.specs.Logs.{CallerState, Seat, LoggedShard}
+use Rattle.tail_settings.specs.Settings.{SettingsData}
 use Rattle.tenant_shard.specs.declared.step.Outcome.{Outcome}
 use Rattle.tenant_shard.specs.declared.step.Outcome.TheVariants as outcomes
-use Rattle.trace_service.specs.Jobs.{IsThread, turner, sender, receiver, HasGiven, WasGiven, PoppedWereGiven}
+use Rattle.trace_service.specs.Jobs.{IsThread, turner, sender, idle, receiver, admin, HasGiven, WasGiven, PoppedWereGiven}
 use Rattle.trace_service.specs.Work.{MakesTurn, made, refused, turned_of}
 
 -- a seat has a call that gave this job
@@ -132,30 +133,32 @@ item_in (x ∷ es) e (suc k, below, is) =
     let rest = item_in es e (k, omega (arith, below), is) in
     (suc rest.0, omega (arith, rest.1), rest.2)
 
-thread_gave : (shards : ℕ) (fresh caller : CallerState) (seat : SeatLists) (p : NumberedJob) → IsThread shards fresh caller seat
+thread_gave : (first : SettingsData) (shards : ℕ) (fresh caller : CallerState) (seat : SeatLists) (p : NumberedJob) → IsThread first shards fresh caller seat
     → Contains seat.pushes p → HasGiven caller p.1
-thread_gave shards fresh caller seat p (turner did) has =
+thread_gave first shards fresh caller seat p (turner did) has =
     turns_give did.shard did.made fresh caller p.1 did.runs
     (subst (λ js. Contains js p.1) (sym did.jobs) (Contains-append_left (items_of seat.pushes) (option_to_list did.held) p.1 (item_in seat.pushes p has)))
-thread_gave shards fresh caller seat p (sender did) has = none_in p (subst (λ ps. Contains ps p) did.no_pushes has)
-thread_gave shards fresh caller seat p (receiver no_pushes no_pops) has = none_in p (subst (λ ps. Contains ps p) no_pushes has)
+thread_gave first shards fresh caller seat p (sender did) has = none_in p (subst (λ ps. Contains ps p) did.no_pushes has)
+thread_gave first shards fresh caller seat p (idle apart none) has = none_in p (subst (λ ps. Contains ps p) apart.no_pushes has)
+thread_gave first shards fresh caller seat p (receiver apart did) has = none_in p (subst (λ ps. Contains ps p) apart.no_pushes has)
+thread_gave first shards fresh caller seat p (admin apart looks) has = none_in p (subst (λ ps. Contains ps p) apart.no_pushes has)
 
 one_more : (callers : List CallerState) (c : CallerState) (job : Job) → WasGiven callers job → WasGiven (c ∷ callers) job
 one_more callers c job (caller, has, gave) = (caller, Contains-append_right (c ∷ []) callers caller has, gave)
 
-all_gave : (shards : ℕ) (fresh : CallerState) (callers : List CallerState) (seats : List SeatLists) (p : NumberedJob) → AllZip (IsThread shards fresh) callers seats
+all_gave : (first : SettingsData) (shards : ℕ) (fresh : CallerState) (callers : List CallerState) (seats : List SeatLists) (p : NumberedJob) → AllZip (IsThread first shards fresh) callers seats
     → Contains (all_pushes seats) p → WasGiven callers p.1
-all_gave shards fresh [] [] p each has = none_in p has
-all_gave shards fresh [] (s ∷ ss) p each has = absurd each
-all_gave shards fresh (c ∷ cs) [] p each has = absurd each
-all_gave shards fresh (c ∷ cs) (s ∷ ss) p each has =
+all_gave first shards fresh [] [] p each has = none_in p has
+all_gave first shards fresh [] (s ∷ ss) p each has = absurd each
+all_gave first shards fresh (c ∷ cs) [] p each has = absurd each
+all_gave first shards fresh (c ∷ cs) (s ∷ ss) p each has =
     either (Contains-append_cases s.pushes (all_pushes ss) p has)
-    (λ own. (c, (zero, omega arith, refl), thread_gave shards fresh c s p each.0 own))
-    (λ later. one_more cs c p.1 (all_gave shards fresh cs ss p each.1 later))
+    (λ own. (c, (zero, omega arith, refl), thread_gave first shards fresh c s p each.0 own))
+    (λ later. one_more cs c p.1 (all_gave first shards fresh cs ss p each.1 later))
 
 pub popped_were_given : PopsWerePushed → PoppedWereGiven
-popped_were_given pushed shards fresh callers seats taken left threads run =
+popped_were_given pushed first shards fresh callers seats taken left threads run =
     All-weaker (Contains (all_pushes seats)) (λ p. WasGiven callers p.1)
     (λ p has. subst (λ (cs : List CallerState). WasGiven cs p.1) (sym threads.callers_are)
-    (one_more threads.others threads.own p.1 (all_gave shards fresh threads.others seats p threads.each has)))
+    (one_more threads.others threads.own p.1 (all_gave first shards fresh threads.others seats p threads.each has)))
     (all_pops seats) (pushed seats taken left run).0

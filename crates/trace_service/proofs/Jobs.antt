@@ -6,7 +6,9 @@ use Rattle.job_lane.specs.declared.job.Job.{Job}
 use Rattle.job_lane.specs.Lane.{LaneName, SeatLists, new_seat}
 use Rattle.log_positions.specs.Numbered.{items_of}
 use Rattle.shared_hub.specs.Logs.{CallerState}
-use Rattle.trace_service.specs.Jobs.{IsThread, turner, sender, receiver, AreThreads}
+use Rattle.tail_settings.specs.Settings.{SettingsData}
+use Rattle.trace_service.specs.Jobs.{IsThread, IsApart, turner, sender, idle, admin, AreThreads}
+use Rattle.trace_service.specs.Shown.{OnlyLooks}
 use Rattle.trace_service.specs.Work.{MakesTurn, TakesAnswer, RefusesAnswer}
 
 -- what is said of each step is said of all in a row
@@ -39,13 +41,18 @@ hands_view caller shards takes refuses taken refused old h new hands = record {
   taken = taken hands.mid (taken_of h) new hands.taken;
 }
 
-module _ (shards : ℕ) (lane : LaneName) (fresh : CallerState) where
+-- who left its new seat as it was did nothing at the lane
+pub apart : (lane : LaneName) (before after : SeatLists) → before ≡ new_seat lane → after ≡ before → IsApart after
+apart lane before after empty same =
+    record { no_pushes = ap (λ (s : SeatLists). s.pushes) (same ∙ empty); no_pops = ap (λ (s : SeatLists). s.pops) (same ∙ empty) }
+
+module _ (first : SettingsData) (shards : ℕ) (lane : LaneName) (fresh : CallerState) where
   pub turner_did : {S B : Type 0} (old new : S) (before after : SeatLists) (beat last : B) (held : Option Job)
       (caller : S → CallerState) (shard : S → ℕ) (turns : S → Turn → S → Type 0) (calls : B → BeatCall → B → Type 0)
       → caller old ≡ fresh → before ≡ new_seat lane → after.pops ≡ before.pops
       → Turning turns calls old new beat last before.pushes after.pushes held
       → ((s : S) (t : Turn) (next : S) → turns s t next → (shard next ≡ shard s) × MakesTurn (caller s) (caller next) (shard s) t)
-      → IsThread shards fresh (caller new) after
+      → IsThread first shards fresh (caller new) after
   turner_did old new before after beat last held caller shard turns calls is empty same work says =
       let pushed : after.pushes ≡ work.pushed = work.pushes ∙ ap (λ (s : SeatLists). s.pushes ++ work.pushed) empty in
       turner (record {
@@ -64,7 +71,7 @@ module _ (shards : ℕ) (lane : LaneName) (fresh : CallerState) where
       → Sending posts takes refuses calls back_end left old new beat last before.pops after.pops
       → ((s : S) (g : Given) (next : S) → takes s g next → TakesAnswer (caller s) (caller next) shards g)
       → ((s : S) (g : Given) (next : S) → refuses s g next → RefusesAnswer (caller s) (caller next) shards g)
-      → IsThread shards fresh (caller new) after
+      → IsThread first shards fresh (caller new) after
   sender_did old new before after back_end left beat last caller posts takes refuses calls is empty same work taken refused =
       let popped : after.pops ≡ work.popped = work.pops ∙ ap (λ (s : SeatLists). s.pops ++ work.popped) empty in
       sender (record {
@@ -76,35 +83,40 @@ module _ (shards : ℕ) (lane : LaneName) (fresh : CallerState) where
         no_pushes = same ∙ ap (λ (s : SeatLists). s.pushes) empty;
       })
 
-  pub nothing_done : (caller : CallerState) (before after : SeatLists) → before ≡ new_seat lane → after ≡ before → IsThread shards fresh caller after
-  nothing_done caller before after empty same =
-      receiver (ap (λ (s : SeatLists). s.pushes) (same ∙ empty)) (ap (λ (s : SeatLists). s.pops) (same ∙ empty))
+  pub nothing_done : (caller : CallerState) (before after : SeatLists) → before ≡ new_seat lane → after ≡ before → caller ≡ fresh
+      → IsThread first shards fresh caller after
+  nothing_done caller before after empty same none = idle (apart lane before after empty same) none
+
+  pub only_looked : (old new : CallerState) (before after : SeatLists) → before ≡ new_seat lane → after ≡ before → old ≡ fresh
+      → OnlyLooks shards old new → IsThread first shards fresh new after
+  only_looked old new before after empty same none looks =
+      admin (apart lane before after empty same) (subst (λ c. OnlyLooks shards c new) none looks)
 
 -- one thread more
-each_more : (shards : ℕ) (fresh : CallerState) (callers : List CallerState) (seats : List SeatLists) (caller : CallerState) (seat : SeatLists)
-    → AllZip (IsThread shards fresh) callers seats → IsThread shards fresh caller seat
-    → AllZip (IsThread shards fresh) (callers ++ caller ∷ []) (seats ++ seat ∷ [])
-each_more shards fresh [] [] caller seat each one = (one, tt)
-each_more shards fresh [] (s ∷ ss) caller seat each one = absurd each
-each_more shards fresh (c ∷ cs) [] caller seat each one = absurd each
-each_more shards fresh (c ∷ cs) (s ∷ ss) caller seat each one = (each.0, each_more shards fresh cs ss caller seat each.1 one)
+each_more : (first : SettingsData) (shards : ℕ) (fresh : CallerState) (callers : List CallerState) (seats : List SeatLists) (caller : CallerState) (seat : SeatLists)
+    → AllZip (IsThread first shards fresh) callers seats → IsThread first shards fresh caller seat
+    → AllZip (IsThread first shards fresh) (callers ++ caller ∷ []) (seats ++ seat ∷ [])
+each_more first shards fresh [] [] caller seat each one = (one, tt)
+each_more first shards fresh [] (s ∷ ss) caller seat each one = absurd each
+each_more first shards fresh (c ∷ cs) [] caller seat each one = absurd each
+each_more first shards fresh (c ∷ cs) (s ∷ ss) caller seat each one = (each.0, each_more first shards fresh cs ss caller seat each.1 one)
 
-pub thread_more : (shards : ℕ) (fresh : CallerState) (callers next : List CallerState) (seats more : List SeatLists) (caller : CallerState) (seat : SeatLists)
-    → AreThreads shards fresh callers seats → IsThread shards fresh caller seat → next ≡ callers ++ caller ∷ [] → more ≡ seats ++ seat ∷ []
-    → AreThreads shards fresh next more
-thread_more shards fresh callers next seats more caller seat all one now is = record {
+pub thread_more : (first : SettingsData) (shards : ℕ) (fresh : CallerState) (callers next : List CallerState) (seats more : List SeatLists) (caller : CallerState) (seat : SeatLists)
+    → AreThreads first shards fresh callers seats → IsThread first shards fresh caller seat → next ≡ callers ++ caller ∷ [] → more ≡ seats ++ seat ∷ []
+    → AreThreads first shards fresh next more
+thread_more first shards fresh callers next seats more caller seat all one now is = record {
   own = all.own;
   others = all.others ++ caller ∷ [];
   callers_are = now ∙ ap (λ cs. cs ++ caller ∷ []) all.callers_are;
-  each = subst (λ ss. AllZip (IsThread shards fresh) (all.others ++ caller ∷ []) ss) (sym is) (each_more shards fresh all.others seats caller seat all.each one);
+  each = subst (λ ss. AllZip (IsThread first shards fresh) (all.others ++ caller ∷ []) ss) (sym is) (each_more first shards fresh all.others seats caller seat all.each one);
 }
 
-pub no_threads : (shards : ℕ) (fresh own : CallerState) (callers : List CallerState) (seats : List SeatLists) → callers ≡ own ∷ [] → seats ≡ []
-    → AreThreads shards fresh callers seats
-no_threads shards fresh own callers seats is none =
-    record { own = own; others = []; callers_are = is; each = subst (AllZip (IsThread shards fresh) []) (sym none) tt }
+pub no_threads : (first : SettingsData) (shards : ℕ) (fresh own : CallerState) (callers : List CallerState) (seats : List SeatLists) → callers ≡ own ∷ [] → seats ≡ []
+    → AreThreads first shards fresh callers seats
+no_threads first shards fresh own callers seats is none =
+    record { own = own; others = []; callers_are = is; each = subst (AllZip (IsThread first shards fresh) []) (sym none) tt }
 
--- of so many shards, and of that new caller
-pub threads_told : (slots shards : ℕ) (first fresh : CallerState) (callers : List CallerState) (seats : List SeatLists) → slots ≡ shards → first ≡ fresh
-    → AreThreads slots first callers seats → AreThreads shards fresh callers seats
-threads_told slots shards first fresh callers seats same new threads = rw (same, new) at threads
+-- of these settings, of so many shards, and of that new caller
+pub threads_told : (first table : SettingsData) (slots shards : ℕ) (fresh new : CallerState) (callers : List CallerState) (seats : List SeatLists)
+    → first ≡ table → slots ≡ shards → fresh ≡ new → AreThreads first slots fresh callers seats → AreThreads table shards new callers seats
+threads_told first table slots shards fresh new callers seats settings same begun threads = rw (settings, same, begun) at threads

@@ -16,5 +16,6 @@ pub mod Talked
 pub mod Replies
 pub mod Shown
 pub mod Jobs
+pub mod Received
 pub mod Given
 pub mod Changed

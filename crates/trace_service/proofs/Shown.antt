@@ -1,11 +1,11 @@
 -- What is shown, and what was asked for it.
-use Rattle.std.proofs.Common.{◌≡◌, ℕ, ◌+◌, ◌%◌, ◌<◌, List, [], ◌∷◌, ◌++◌, length, map, take, get_or, true, false, ◌&&◌, Result, Ok, Err, IfOk, OnOk, OnErr, Option, Some, None, IfSome, option_map, Vec, Global, refl, sym, ap, subst, ◌∙◌, append_assoc, string_bytes}
+use Rattle.std.proofs.Common.{◌≡◌, ℕ, ◌+◌, ◌%◌, ◌<◌, List, [], ◌∷◌, ◌++◌, length, map, take, get_or, Bool, true, false, ◌&&◌, Result, Ok, Err, IfOk, OnOk, OnErr, Option, Some, None, IfSome, option_map, Vec, Global, refl, sym, ap, subst, ◌∙◌, append_assoc, string_bytes}
 use Rattle.std.proofs.lemmas.List.{map_more}
 use Rattle.admin_pages.specs.Figures.{TenantData, tenant_of}
 use Rattle.admin_pages.specs.declared.figures.TenantFigures.{TenantFigures}
 use Rattle.drop_ledger.specs.Ledger.{LedgerData, LedgerInvariant, ledger_of}
 use Rattle.drop_ledger.specs.Report.{report_text}
-use Rattle.admin_pages.specs.Route.{RouteData}
+use Rattle.admin_pages.specs.Route.{RouteData, Page, Metrics, Health, Readiness, Drain, Tenants, Add, Tenant, Retire, NoSuchPath, OtherMethod}
 use Rattle.admin_pages.specs.declared.service.ServiceFigures.{ServiceFigures}
 use Rattle.http_edge.specs.Message.{Request, Response}
 use Rattle.http_edge.specs.Seen.{response_of}
@@ -19,10 +19,12 @@ use Rattle.tenant_shard.specs.declared.step.Outcome.TheVariants as outcomes
 use Rattle.tenant_shard.specs.declared.waiting.Waiting.{Waiting}
 use Rattle.trace_service.specs.Comings.{Present}
 use Rattle.trace_service.specs.InForce.{CameOf}
+use Rattle.trace_service.specs.Receiving.{IsTalk}
 use Rattle.trace_service.specs.Roster.{entry_of}
-use Rattle.trace_service.specs.Shown.{AreFigures, AreLooked, no_look, look_more, AdminData, IsLooked, IsSeen, LooksMore, IsOfService, IsShown, let_in, not_let_in, route_in, Shows, OnlyLooks, OnlyLooksIf, is_for_figures, may_look, nothing, looked, refused, Tells, told_of, refused_reply}
+use Rattle.trace_service.specs.Shown.{AreFigures, AreLooked, no_look, look_more, AdminData, IsLooked, IsSeen, LooksMore, IsOfService, IsShown, let_in, not_let_in, without_memory, route_in, Shows, ShowsTenant, shown, nobody, left, gone, OnlyLooks, OnlyLooksIf, is_for_figures, may_look, nothing, looked, refused, Tells, told_of, refused_reply}
 use Rattle.trace_service.specs.Token.{is_let_in}
 use Rattle.trace_service.proofs.Replies.{if_ok, on_err}
+use Rattle.trace_service.proofs.Talked.{talk_keeps}
 
 -- ---- what was only looked
 
@@ -50,6 +52,57 @@ pub all_looked : (shards : ℕ) (old : CallerState) {tenants : Present} {figures
 all_looked shards old no_look = nothing
 all_looked shards old (look_more tenants figures mid tenant name ledger waiting new before look seen) =
     looked mid tenant ledger new (all_looked shards old before) look
+
+-- ---- whatever was asked, it was only looked
+
+looks_if : (b : Bool) (shards : ℕ) (old new : CallerState) → OnlyLooksIf b shards old new → OnlyLooks shards old new
+looks_if true shards old new looks = looks
+looks_if false shards old new same = unchanged shards old new same
+
+tenant_looked : (first : SettingsData) (shards : ℕ) (name : List ℕ) (old new : CallerState) (told : Response)
+    → ShowsTenant first shards name old new told → OnlyLooks shards old new
+tenant_looked first shards name old new told (shown number section ledger waiting known has look seen reply) =
+    one_looked shards old number (Some ledger) new look
+tenant_looked first shards name old new told (nobody is same reply) = unchanged shards old new same
+tenant_looked first shards name old new told (left number known has same reply) = unchanged shards old new same
+tenant_looked first shards name old new told (gone number section known has look reply) =
+    one_looked shards old number None new look
+
+route_looked : (first : SettingsData) (shards : ℕ) (admin : AdminData) (route : RouteData) (body : List ℕ) (old new : CallerState)
+    (told : Response) → Shows first shards admin route body old new told → OnlyLooks shards old new
+route_looked first shards admin Page body old new told is = unchanged shards old new is.1
+route_looked first shards admin Metrics body old new told is = all_looked shards old is.looked.looked
+route_looked first shards admin Health body old new told is = unchanged shards old new is.1
+route_looked first shards admin Readiness body old new told is = unchanged shards old new is.1
+route_looked first shards admin Drain body old new told is = unchanged shards old new is.1
+route_looked first shards admin Tenants body old new told is = all_looked shards old is.looked.looked
+route_looked first shards admin Add body old new told is = unchanged shards old new is.1
+route_looked first shards admin (Tenant name) body old new told is = tenant_looked first shards name old new told is
+route_looked first shards admin (Retire name) body old new told is = unchanged shards old new is.1
+route_looked first shards admin NoSuchPath body old new told is = unchanged shards old new is.1
+route_looked first shards admin (OtherMethod methods) body old new told is = unchanged shards old new is.1
+
+request_looked : (first : SettingsData) (shards : ℕ) (admin : AdminData) (request : Request) (old new : CallerState)
+    (told : Response) → IsShown first shards admin request old new told → OnlyLooks shards old new
+request_looked first shards admin request old new told (let_in may shows) =
+    route_looked first shards admin (route_in request) request.body old new told shows
+request_looked first shards admin request old new told (not_let_in may is same) = unchanged shards old new same
+request_looked first shards admin request old new told (without_memory looks is) =
+    looks_if (may_look admin request) shards old new looks
+
+-- so it is over a whole connection, while the same caller is lent
+pub connection_looked : {H N : Type 0} (answers : H → Request → Response → H → Type 0) (caller : H → CallerState) (name : H → N)
+    (admin : H → AdminData) (first : SettingsData) (shards : ℕ) (old new : H) → IsTalk answers old new
+    → ((a : H) (request : Request) (told : Response) (b : H) → answers a request told b
+    → IsShown first shards (admin a) request (caller a) (caller b) told × (name b ≡ name a))
+    → OnlyLooks shards (caller old) (caller new) × (name new ≡ name old)
+connection_looked {H} answers caller name admin first shards old new talk says =
+    let Keeps : H → H → Type 0 = λ a b. OnlyLooks shards (caller a) (caller b) × (name b ≡ name a) in
+    talk_keeps answers Keeps (λ s. (nothing, refl))
+    (λ a b c before after. (looks_then shards (caller a) (caller b) before.0 after.0, after.1 ∙ before.1))
+    (λ a request told b answer. let is = says a request told b answer in
+    (request_looked first shards (admin a) request (caller a) (caller b) told is.0, is.1))
+    old new talk
 
 -- ---- one tenant more
 

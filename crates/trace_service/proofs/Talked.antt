@@ -1,7 +1,7 @@
 -- What came of a connection, whether it was broken off or not.
-use Rattle.std.proofs.Common.{ℕ, List, Bool, Result, Ok, Err, OnOk, IfErr, inl, inr}
-use Rattle.http_edge.specs.Message.{Request, Response}
-use Rattle.http_edge.specs.Talk.{Talk, Begins}
+use Rattle.std.proofs.Common.{◌≡◌, ◌⊎◌, ℕ, List, [], ◌∷◌, Bool, Result, Ok, Err, OnOk, IfErr, inl, inr, subst, sym}
+use Rattle.http_edge.specs.Message.{Request, Response, request_of}
+use Rattle.http_edge.specs.Talk.{Talk, Begins, Exchange, Runs, Ends, waits, refuses, closing, Due, nothing, interim, refusing, replying, Lacks, at_front, at_body, at_reply, IsDue, breaking, lacking}
 use Rattle.http_edge.specs.declared.wire.EdgeFault.{EdgeFault}
 use Rattle.trace_service.specs.Receiving.{IsTalk}
 
@@ -12,3 +12,49 @@ pub talked : {H T : Type 0} (answers : H → Request → Response → H → Type
     → IsTalk answers old new
 talked answers old new M E (Ok x) talk fault = (talk.0, talk.1, inl (talk.2, talk.4))
 talked answers old new M E (Err e) talk fault = (fault.0, fault.1, inr (e, fault.3))
+
+-- what each answer keeps, and what is kept along, is kept over a whole connection
+module _ {H : Type 0} (answers : H → Request → Response → H → Type 0) (Keeps : H → H → Type 0) (at_rest : (s : H) → Keeps s s)
+    (along : (a b c : H) → Keeps a b → Keeps b c → Keeps a c)
+    (each : (a : H) (request : Request) (told : Response) (b : H) → answers a request told b → Keeps a b) where
+  stays : (old new : H) → new ≡ old → Keeps old new
+  stays old new same = subst (λ s. Keeps old s) (sym same) (at_rest old)
+
+  runs_keep : (old : H) (es : List Exchange) (new : H) → Runs answers old es new → Keeps old new
+  runs_keep old [] new runs = stays old new runs
+  runs_keep old (e ∷ es) new runs =
+      along old runs.0 new (each old (request_of e.message) e.reply runs.0 runs.1) (runs_keep runs.0 es new runs.2)
+
+  module _ (old : H) (rest : List ℕ) (new : H) where
+    ends_keep : {text : List ℕ} {over : Bool} → Ends answers old rest new text over → Keeps old new
+    ends_keep (waits text due same) = stays old new same
+    ends_keep (refuses text due same) = stays old new same
+    ends_keep (closing e after message closes answer) = each old (request_of e.message) e.reply new answer
+
+    due_keep : {text : List ℕ} → Due answers old rest new text → Keeps old new
+    due_keep (nothing same) = stays old new same
+    due_keep (interim h may same) = stays old new same
+    due_keep (refusing text due same) = stays old new same
+    due_keep (replying e after message answer) = each old (request_of e.message) e.reply new answer
+
+    lacks_keep : {text : List ℕ} → Lacks answers old rest new text → Keeps old new
+    lacks_keep (at_front same) = stays old new same
+    lacks_keep (at_body h may same) = stays old new same
+    lacks_keep (at_reply e after message answer some) = each old (request_of e.message) e.reply new answer
+
+    fault_keeps : {fault : EdgeFault} {text : List ℕ} → IsDue fault answers old rest new text → Keeps old new
+    fault_keeps (breaking text other due) = due_keep due
+    fault_keeps (lacking text other lacks) = lacks_keep lacks
+
+  one_keeps : (old new : H) (read written : List ℕ)
+      → ((over : Bool) × Talk answers old read new written over) ⊎ ((fault : EdgeFault) × Begins fault answers old read new written)
+      → Keeps old new
+  one_keeps old new read written (inl whole) =
+      let talk = whole.1 in
+      along old talk.mid new (runs_keep old talk.exchanges talk.mid talk.runs) (ends_keep talk.mid talk.rest new talk.due)
+  one_keeps old new read written (inr broken) =
+      let talk = broken.1.1 in
+      along old talk.mid new (runs_keep old talk.exchanges talk.mid talk.runs) (fault_keeps talk.mid talk.rest new talk.due)
+
+  pub talk_keeps : (old new : H) → IsTalk answers old new → Keeps old new
+  talk_keeps old new talk = one_keeps old new talk.0 talk.1 talk.2

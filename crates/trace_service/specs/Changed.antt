@@ -1,12 +1,13 @@
 -- What whoever asks for a tenant to come or to go is told. This project's own rule.
 use Rattle.std.specs.Prelude.{◌≡◌, ◌≢◌, ℕ, ◌<◌, ◌≤◌, Bool, true, false, List, [], ◌++◌, length, get_or, Option, Some, None, if◌then◌else◌, codes, bytes_eq, IsUtf8}
 use Rattle.std.specs.Str.{trim_end}
+use Rattle.admin_pages.specs.Figures.{no_usage}
 use Rattle.admin_pages.specs.Json.{tenant_text}
 use Rattle.drop_ledger.specs.Ledger.{LedgerData, LedgerInvariant}
 use Rattle.drop_ledger.specs.Report.{report_text as counters_text}
 use Rattle.http_edge.specs.Message.{Response}
 use Rattle.http_edge.specs.declared.message.MediaType.TheVariants.{Json}
-use Rattle.replay_script.specs.Answer.{report_text}
+use Rattle.replay_script.specs.Answer.{refused_text, report_text}
 use Rattle.settings_check.specs.Report.{IsFileReport}
 use Rattle.trace_service.specs.Notice.{came_reply, notice_of, reply_of, unknown_reply}
 use Rattle.trace_service.specs.Post.{no_memory}
@@ -95,10 +96,14 @@ pub data TellsAdded (document line : List ℕ) (told : Response) : Type 0 where
 abbrev pub last_line : List ℕ → LedgerData → List ℕ
 last_line name ledger = report_text name (counters_text ledger)
 
--- a tenant of this name went with this ledger: it has no rows any more, and nothing of it waits
+-- a tenant of this name went with this ledger: nothing of it is there any more, and nothing of it waits
 abbrev pub went_reply : List ℕ → LedgerData → Response
 went_reply name ledger =
-    reply_of 200 Json (tenant_text (record { name = name; ledger = ledger; rows = 0; ready = None }))
+    reply_of 200 Json (tenant_text (record { name = name; ledger = ledger; usage = no_usage; ready = None }))
+
+-- the tenant stays (409, RFC 9110, section 15.5.10)
+abbrev pub stays_reply : Response
+stays_reply = notice_of 409 (codes "error") (codes "the tenant stays: it holds spans")
 
 -- what whoever asked that the tenant of this name goes is told, where this line answered
 pub data TellsRetired (name line : List ℕ) (told : Response) : Type 0 where
@@ -106,12 +111,13 @@ pub data TellsRetired (name line : List ℕ) (told : Response) : Type 0 where
   nobody : line ≡ [] → told ≡ unknown_reply → TellsRetired name line told
   went : (ledger : LedgerData) → line ≡ last_line name ledger
       → told ≡ went_reply name ledger → TellsRetired name line told
-  -- (409, RFC 9110, section 15.5.10)
-  stays : (why : List ℕ) → line ≡ codes "refused " ++ why
-      → told ≡ notice_of 409 (codes "error") (codes "the tenant stays: it holds spans") → TellsRetired name line told
+  -- its shard had it no more: a try before, for whose report memory was refused, had let it go
+  gone : line ≡ refused_text name 22 → told ≡ unknown_reply → TellsRetired name line told
+  -- it holds spans, and stays
+  stays : line ≡ refused_text name 26 → told ≡ stays_reply → TellsRetired name line told
   -- no such line: memory was refused for its bytes
   no_line : line ≢ [] → (IsUtf8 line → ((ledger : LedgerData) → LedgerInvariant ledger → line ≢ last_line name ledger)
-      × ((why : List ℕ) → line ≢ codes "refused " ++ why)) → told ≡ no_memory → TellsRetired name line told
+      × (line ≢ refused_text name 22) × (line ≢ refused_text name 26)) → told ≡ no_memory → TellsRetired name line told
 
 -- what whoever posted a document is told, by what came of the question
 abbrev pub TellsAdding : Asked → List ℕ → Response → Type 0

@@ -1,6 +1,7 @@
 -- What becomes of a body that is posted, and what its sender is told (OTLP/HTTP).
-use Rattle.std.specs.Prelude.{◌≡◌, ℕ, ◌%◌, List, [], ◌⊎◌, codes, ◌∷◌, Option, Some, None}
+use Rattle.std.specs.Prelude.{◌≡◌, ℕ, ◌%◌, ◌<◌, List, [], ◌⊎◌, codes, ◌∷◌, length, Option, Some, None}
 use Rattle.http_edge.specs.Message.{Request, Response}
+use Rattle.http_edge.specs.Reply.{status_body}
 use Rattle.http_edge.specs.declared.message.Allow.TheVariants as methods
 use Rattle.http_edge.specs.declared.message.MediaType.TheVariants.{Protobuf}
 use Rattle.machine_hub.specs.declared.receipt.Receipt.{Receipt}
@@ -9,6 +10,7 @@ use Rattle.otlp_front.specs.Route.{Route, names_in, route_of, post, refuse, unkn
 use Rattle.otlp_prepare.specs.Prepared.{PreparedData, prepared_of}
 use Rattle.otlp_read.specs.Value.{IsValue}
 use Rattle.otlp_trace.specs.Data.{RequestData}
+use Rattle.otlp_trace.specs.Text.{refusal_text}
 use Rattle.shared_hub.specs.Logs.{CallerState, IsStepOn}
 use Rattle.tail_settings.specs.Section.{SectionData}
 use Rattle.tail_settings.specs.Settings.{SettingsData, section_at}
@@ -24,7 +26,13 @@ answer status body = record { status = status; media = Protobuf; allow = methods
 
 -- the body has no value: a `google.rpc.Status` with this message alone
 abbrev pub bad_request : Response
-bad_request = answer 400 (18 ∷ 12 ∷ codes "bad protobuf")
+bad_request = answer 400 (refusal_text (codes "bad protobuf"))
+
+-- a `google.rpc.Status` with its message alone is spelled alike before a body is looked at and behind that; messages of
+-- no byte, and of 128 bytes and more, aren't told before
+abbrev pub StatusesAgree : Type 0
+StatusesAgree =
+    (message : List ℕ) → 0 < length message → length message < 128 → status_body message ≡ refusal_text message
 
 -- memory was refused
 abbrev pub no_memory : Response

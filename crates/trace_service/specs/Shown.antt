@@ -1,5 +1,6 @@
 -- What whoever looks after a service is told, route by route, and which steps are made for it. This project's own rule.
 use Rattle.std.specs.Prelude.{◌≡◌, ◌≢◌, ◌⊎◌, ℕ, ◌%◌, Bool, ◌&&◌, List, [], ◌∷◌, ◌++◌, length, true, false, Option, Some, None, option_copied, codes, string_bytes, IsUtf8}
+use Rattle.std.specs.Borrow.{Bor}
 use Rattle.admin_page.specs.declared.page.TheConstants.{PAGE}
 use Rattle.admin_pages.specs.Figures.{TenantData}
 use Rattle.admin_pages.specs.Json.{tenants_text}
@@ -7,6 +8,7 @@ use Rattle.admin_pages.specs.Metrics.{tenants_text as metrics_text}
 use Rattle.admin_pages.specs.Route.{RouteData, Page, Metrics, Health, Readiness, Drain, Tenants, Add, Tenant, Retire, NoSuchPath, OtherMethod, route_of}
 use Rattle.admin_pages.specs.Service.{service_text}
 use Rattle.admin_pages.specs.Settings.{settled_text}
+use Rattle.admin_pages.specs.declared.figures.TenantUsage.{TenantUsage}
 use Rattle.admin_pages.specs.declared.service.ServiceFigures.{ServiceFigures}
 use Rattle.drop_ledger.specs.Ledger.{LedgerData, LedgerInvariant}
 use Rattle.drop_ledger.specs.Report.{report_text}
@@ -54,16 +56,27 @@ pub record IsLooked (old new : CallerState) (shards tenant : ℕ) (ledger : Opti
   pub made : IsStepOn old new (tenant % shards) (steps.Report tenant now) outcome receipt
   pub tells : Tells outcome ledger
 
--- the tenant's shard said, at a moment after all of this caller's steps, that the tenant waits so: how many rows of it
--- are present, and when something of it is due next, in milliseconds since the start, or that nothing of it waits
+-- the tenant's shard said, at a moment after all of this caller's steps, that the tenant waits so: how full it is and
+-- may be, and when something of it is due next, in milliseconds since the start, or that nothing of it waits
 abbrev pub IsSeen : CallerState → ℕ → ℕ → Waiting → Type 0
 IsSeen caller shards tenant waiting =
     (told : Told Waiting) × IsLookOn caller (tenant % shards) tenant told × (told.answer ≡ waiting)
 
+-- how full a tenant is and may be, as its shard says
+abbrev pub usage_shown : Waiting → TenantUsage
+usage_shown waiting = record {
+  rows = waiting.usage.rows;
+  undecided_rows = waiting.usage.undecided_rows;
+  rows_limit = waiting.usage.rows_limit;
+  spans_limit = waiting.usage.spans_limit;
+  queued_batches = waiting.usage.queued_batches;
+  queued_batches_limit = waiting.usage.queued_batches_limit;
+}
+
 -- the figures of a tenant with these counters that waits so
 abbrev pub figures_with : List ℕ → LedgerData → Waiting → TenantData
 figures_with name ledger waiting =
-    record { name = name; ledger = ledger; rows = waiting.rows; ready = waiting.tenant_ready }
+    record { name = name; ledger = ledger; usage = usage_shown waiting; ready = waiting.tenant_ready }
 
 -- the tenants of whom something was told, behind others
 abbrev pub told_of : List TenantData → List ℕ → Option LedgerData → Waiting → List TenantData
@@ -112,10 +125,10 @@ pub record AdminData : Type 0 where
   pub lane_capacity : ℕ
 
 -- that of who serves at this port for these threads, with a lane of so much room
-abbrev pub admin_of : AdminPort → ServiceLimits → ℕ → AdminData
+abbrev pub admin_of : Bor AdminPort → ServiceLimits → ℕ → AdminData
 admin_of port limits lane_capacity = record {
-  token = option_copied port.token;
-  version = port.version.now;
+  token = option_copied port.now.token;
+  version = port.now.version.now;
   receivers = limits.receivers;
   senders = limits.senders;
   lane_capacity = lane_capacity;

@@ -1,17 +1,23 @@
--- The token that a request of whoever looks after a service gives (RFC 6750), whether a page of a browser asks (RFC
--- 6454), and whether the request is let in.
-use Rattle.std.specs.Prelude.{ℕ, Bool, true, false, not, ◌&&◌, ◌||◌, nat_le, List, length, take, drop, Option, Some, None, option_and_then, if◌then◌else◌, codes, bytes_eq}
+-- The token that a request of whoever looks after a service gives (RFC 6750), whether a page of a browser asks (the
+-- Fetch standard), and whether the request is let in.
+use Rattle.std.specs.Prelude.{ℕ, Bool, true, false, not, ◌&&◌, ◌||◌, ◌==◌, nat_le, List, [], ◌∷◌, length, take, drop, Option, Some, None, option_and_then, if◌then◌else◌, codes, bytes_eq}
 use Rattle.std.specs.List.{list_any}
 use Rattle.admin_pages.specs.Route.{RouteData, Page, Health, Readiness, Drain, Add, Retire}
 use Rattle.http1.specs.Fields.{Header, is_named}
 use Rattle.http1.specs.Text.{eq_ignore_case}
 use Rattle.http_edge.specs.Fields.{field, only}
 
--- the token of credentials, behind the scheme `Bearer` and a space (RFC 6750, section 2.1), in any case (RFC 9110,
--- section 11.1)
+-- what stands behind the spaces at its front
+abbrev pub without_spaces : List ℕ → List ℕ
+without_spaces [] = []
+without_spaces (byte ∷ bytes) = if byte == 32 then without_spaces bytes else byte ∷ bytes
+
+-- the token of credentials, behind the scheme `Bearer`, in any case (RFC 9110, section 11.1), and a space or more (RFC
+-- 6750, section 2.1)
 abbrev pub bearer : List ℕ → Option (List ℕ)
 bearer value =
-    if nat_le 7 (length value) && eq_ignore_case (take 7 value) (codes "bearer ") then Some (drop 7 value) else None
+    if nat_le 7 (length value) && eq_ignore_case (take 7 value) (codes "bearer ")
+    then Some (without_spaces (drop 7 value)) else None
 
 -- the token in the one field `Authorization` (RFC 9110, section 11.6.2)
 abbrev pub token_of : List Header → Option (List ℕ)
@@ -22,8 +28,8 @@ abbrev pub is_wanted : List ℕ → Option (List ℕ) → Bool
 is_wanted wanted None = false
 is_wanted wanted (Some given) = bytes_eq wanted given
 
--- a page asks: a browser puts `Origin` into each request that may change something (RFC 6454, section 7.3); more than
--- one such field is no leave either
+-- a page asks: a browser puts `Origin` into each request that may change something (the Fetch standard; the field is
+-- RFC 6454's); more than one such field is no leave either
 abbrev pub is_from_page : List Header → Bool
 is_from_page headers = list_any (is_named (codes "origin")) headers
 

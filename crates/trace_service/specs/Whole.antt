@@ -71,7 +71,7 @@ pub record IsServed (port : Bool) (reads : Reads) (table : SettingsData) (audit 
   pub one_run : AreOneRun table callers
   pub one_history : AreOneHistory table callers shards
   pub seats : List SeatLists
-  pub threads : AreThreads table.global.shards (new_caller slots homes) callers seats
+  pub threads : AreThreads table table.global.shards (new_caller slots homes) callers seats
   pub taken : ℕ
   pub left : ℕ
   pub lane : IsWholeRun seats taken left

@@ -11,8 +11,8 @@ ghost use Rattle.machine_hub.specs.Hub.{IsRefusedOn};
 ghost use Rattle.trace_service.specs.Changed.{TellsAdding};
 ghost use Rattle.trace_service.specs.Receiving.{IsTalk};
 ghost use Rattle.trace_service.specs.Roster.{entry_of};
-ghost use Rattle.trace_service.specs.Shown.{AreFigures, AreLooked, IsKnown, IsLooked, IsNobody, IsOfService, IsSeen, IsShown, OnlyLooks, LooksMore, OnlyLooksIf, ShowsMetrics, ShowsReply, ShowsTenant, ShowsTenants, Tells, TellsGoing, TellsReadiness, admin_of, drained_reply, is_for_figures, may_look, page_reply, refused_reply, told_of};
-ghost use Rattle.trace_service.specs.Token.{bearer, is_change, is_for_all, is_from_page, is_let_in, is_wanted, token_of};
+ghost use Rattle.trace_service.specs.Shown.{AreFigures, AreLooked, IsKnown, IsLooked, IsNobody, IsOfService, IsSeen, IsShown, OnlyLooks, LooksMore, OnlyLooksIf, ShowsMetrics, ShowsReply, ShowsTenant, ShowsTenants, Tells, TellsGoing, TellsReadiness, admin_of, drained_reply, is_for_figures, may_look, page_reply, refused_reply, told_of, usage_shown};
+ghost use Rattle.trace_service.specs.Token.{bearer, is_change, is_for_all, is_from_page, is_let_in, is_wanted, token_of, without_spaces};
 ghost use Rattle.trace_service.specs.declared.desk.Asked.{Asked as AskedCode};
 
 use crate::admin_port::AdminPort;
@@ -30,8 +30,8 @@ use crate::shared::ServiceLimits;
 use crate::visit::{Client, Visit};
 use admin_page::PAGE;
 use admin_pages::{
-    AdminRoute, ServiceFigures, TenantFigures, admin_route, put_service, put_settled_tenant,
-    put_tenant_metrics, put_tenants, read_report, same_token,
+    AdminRoute, ServiceFigures, TenantFigures, TenantUsage, admin_route, put_service,
+    put_settled_tenant, put_tenant_metrics, put_tenants, read_report, same_token,
 };
 use export_edge::Beat;
 use http_edge::{EdgeFault, Handler, Header, HttpMessage, MediaType, Reply, only_value, serve};
@@ -53,7 +53,7 @@ const LONGEST_ANSWER: u64 = 5;
 #[derive(Drop)]
 pub(crate) struct AdminHandler<'c, 'h, J: Naming, R> {
     pub context: &'c mut WorkerContext<'h, J, R>,
-    pub port: AdminPort<'h>,
+    pub port: &'c AdminPort<'h>,
     /// How many threads the service has, and how long they wait.
     pub limits: ServiceLimits,
     pub lane_capacity: usize,
@@ -68,7 +68,8 @@ impl<'c, 'h, J: Naming, R: Wait + Clock> Handler for AdminHandler<'c, 'h, J, R> 
         (admin_of old.port old.limits old.lane_capacity) request old.context.now.caller
         new.context.now.caller told
         × (admin_of new.port new.limits new.lane_capacity
-        ≡ admin_of old.port old.limits old.lane_capacity) };
+        ≡ admin_of old.port old.limits old.lane_capacity)
+        × (new.context.ghost_name ≡ old.context.ghost_name) };
 
     fn handle<T: Threads + Sync>(&mut self, _rt: &T, message: HttpMessage) -> Reply {
         match self.answer(message) {
@@ -84,12 +85,19 @@ impl<'c, 'h, J: Naming, R: Wait + Clock> AdminHandler<'c, 'h, J, R> {
     }
 
     /// Serves the next who comes in at this door, unless the work is over. Pauses where none does.
-    fn serve_next<T: Threads + Sync>(&mut self, rt: &T, door: &Entrance<'h>, buffer: &mut Vec<u8>) {
-        match door.admit(self.context.rt(), self.signals()) {
-            Some(client) if !self.signals().is_over() => self.serve(rt, &client, buffer),
-            Some(_) => {}
-            None => self.context.beat().pause(),
+    fn serve_next<T: Threads + Sync>(&mut self, rt: &T, door: &Entrance<'h>, buffer: &mut Vec<u8>)
+        ensures looks { OnlyLooks (length J.slots) self.old.context.now.caller
+            self.new.context.now.caller }
+        ensures lent { self.new.context.ghost_name ≡ self.old.context.ghost_name }
+    {
+        let Some(client) = door.admit(self.context.rt(), self.signals()) else {
+            self.context.beat().pause();
+            return;
+        };
+        if self.signals().is_over() {
+            return;
         }
+        self.serve(rt, &client, buffer);
     }
 
     /// Serves a client to its end.
@@ -115,6 +123,7 @@ impl<'c, 'h, J: Naming, R: Wait + Clock> AdminHandler<'c, 'h, J, R> {
             self.new.context.now.caller) }
         ensures same { admin_of self.new.port self.new.limits self.new.lane_capacity
             ≡ admin_of self.old.port self.old.limits self.old.lane_capacity }
+        ensures lent { self.new.context.ghost_name ≡ self.old.context.ghost_name }
     {
         let HttpMessage {
             method,
@@ -133,7 +142,7 @@ impl<'c, 'h, J: Naming, R: Wait + Clock> AdminHandler<'c, 'h, J, R> {
     /// Whether a message with these fields is let in there: it has the token that is wanted, and where none is it isn't
     /// a page that asks for a change.
     fn is_let_in(&self, headers: &[Header], asked: &AdminRoute<'_>) -> bool
-        ensures { result ≡ is_let_in (option_copied self.now.port.token)
+        ensures { result ≡ is_let_in (option_copied self.now.port.now.token)
             (map header_of headers.now) (route_view asked.now) }
     {
         match self.port.token {
@@ -152,6 +161,7 @@ impl<'c, 'h, J: Naming, R: Wait + Clock> AdminHandler<'c, 'h, J, R> {
             self.new.context.now.caller) }
         ensures same { admin_of self.new.port self.new.limits self.new.lane_capacity
             ≡ admin_of self.old.port self.old.limits self.old.lane_capacity }
+        ensures lent { self.new.context.ghost_name ≡ self.old.context.ghost_name }
     {
         match asked {
             AdminRoute::Page => page(self.context.alloc()),
@@ -194,6 +204,7 @@ impl<'c, 'h, J: Naming, R: Wait + Clock> AdminHandler<'c, 'h, J, R> {
             self.old.context.now.caller self.new.context.now.caller) }
         ensures same { admin_of self.new.port self.new.limits self.new.lane_capacity
             ≡ admin_of self.old.port self.old.limits self.old.lane_capacity }
+        ensures lent { self.new.context.ghost_name ≡ self.old.context.ghost_name }
     {
         let tenants = self.context.tenants()?;
         self.figures_of(tenants.as_slice())
@@ -208,6 +219,7 @@ impl<'c, 'h, J: Naming, R: Wait + Clock> AdminHandler<'c, 'h, J, R> {
             self.old.context.now.caller self.new.context.now.caller) }
         ensures same { admin_of self.new.port self.new.limits self.new.lane_capacity
             ≡ admin_of self.old.port self.old.limits self.old.lane_capacity }
+        ensures lent { self.new.context.ghost_name ≡ self.old.context.ghost_name }
     {
         let mut figures = Vec::new(self.context.alloc());
         for tenant in tenants {
@@ -230,6 +242,7 @@ impl<'c, 'h, J: Naming, R: Wait + Clock> AdminHandler<'c, 'h, J, R> {
         ensures hub { self.new.context.now.hub ≡ self.old.context.now.hub }
         ensures same { admin_of self.new.port self.new.limits self.new.lane_capacity
             ≡ admin_of self.old.port self.old.limits self.old.lane_capacity }
+        ensures lent { self.new.context.ghost_name ≡ self.old.context.ghost_name }
     {
         let counters = self.counters(tenant.number)?;
         let waiting = self.waiting(tenant.number);
@@ -246,6 +259,7 @@ impl<'c, 'h, J: Naming, R: Wait + Clock> AdminHandler<'c, 'h, J, R> {
         ensures hub { self.new.context.now.hub ≡ self.old.context.now.hub }
         ensures same { admin_of self.new.port self.new.limits self.new.lane_capacity
             ≡ admin_of self.old.port self.old.limits self.old.lane_capacity }
+        ensures lent { self.new.context.ghost_name ≡ self.old.context.ghost_name }
     {
         match self.context.look(tenant) {
             Ok(outcome) => Ok(told_counters(&outcome)),
@@ -254,8 +268,8 @@ impl<'c, 'h, J: Naming, R: Wait + Clock> AdminHandler<'c, 'h, J, R> {
         }
     }
 
-    /// How many rows the tenant of this number has, and when something of it is due next, in milliseconds since the
-    /// start, after all that this thread had asked of its shard.
+    /// How full the tenant of this number is and may be, and when something of it is due next, in milliseconds since
+    /// the start, after all that this thread had asked of its shard.
     fn waiting(&mut self, tenant: u32) -> Waiting
         ensures seen { IsSeen self.old.context.now.caller (length self.old.context.now.hub.now)
             tenant result }
@@ -263,6 +277,7 @@ impl<'c, 'h, J: Naming, R: Wait + Clock> AdminHandler<'c, 'h, J, R> {
         ensures hub { self.new.context.now.hub ≡ self.old.context.now.hub }
         ensures same { admin_of self.new.port self.new.limits self.new.lane_capacity
             ≡ admin_of self.old.port self.old.limits self.old.lane_capacity }
+        ensures lent { self.new.context.ghost_name ≡ self.old.context.ghost_name }
     {
         self.context.waiting(tenant)
     }
@@ -277,6 +292,7 @@ impl<'c, 'h, J: Naming, R: Wait + Clock> AdminHandler<'c, 'h, J, R> {
             self.old.context.now.caller self.new.context.now.caller) }
         ensures same { admin_of self.new.port self.new.limits self.new.lane_capacity
             ≡ admin_of self.old.port self.old.limits self.old.lane_capacity }
+        ensures lent { self.new.context.ghost_name ≡ self.old.context.ghost_name }
     {
         let alloc = self.context.alloc();
         let figures = self.figures()?;
@@ -294,6 +310,7 @@ impl<'c, 'h, J: Naming, R: Wait + Clock> AdminHandler<'c, 'h, J, R> {
         ensures caller { self.new.context.now.caller ≡ self.old.context.now.caller }
         ensures same { admin_of self.new.port self.new.limits self.new.lane_capacity
             ≡ admin_of self.old.port self.old.limits self.old.lane_capacity }
+        ensures lent { self.new.context.ghost_name ≡ self.old.context.ghost_name }
     {
         let figures = self.service_figures(tenants);
         put_service(self.context.alloc(), text, &figures)
@@ -306,6 +323,7 @@ impl<'c, 'h, J: Naming, R: Wait + Clock> AdminHandler<'c, 'h, J, R> {
         ensures caller { self.new.context.now.caller ≡ self.old.context.now.caller }
         ensures same { admin_of self.new.port self.new.limits self.new.lane_capacity
             ≡ admin_of self.old.port self.old.limits self.old.lane_capacity }
+        ensures lent { self.new.context.ghost_name ≡ self.old.context.ghost_name }
     {
         let uptime = self.context.uptime() / 1000;
         let resident_bytes = match self.port.status {
@@ -334,6 +352,7 @@ impl<'c, 'h, J: Naming, R: Wait + Clock> AdminHandler<'c, 'h, J, R> {
             self.old.context.now.caller self.new.context.now.caller) }
         ensures same { admin_of self.new.port self.new.limits self.new.lane_capacity
             ≡ admin_of self.old.port self.old.limits self.old.lane_capacity }
+        ensures lent { self.new.context.ghost_name ≡ self.old.context.ghost_name }
     {
         let alloc = self.context.alloc();
         let figures = self.figures()?;
@@ -351,6 +370,7 @@ impl<'c, 'h, J: Naming, R: Wait + Clock> AdminHandler<'c, 'h, J, R> {
             self.old.context.now.caller self.new.context.now.caller) }
         ensures same { admin_of self.new.port self.new.limits self.new.lane_capacity
             ≡ admin_of self.old.port self.old.limits self.old.lane_capacity }
+        ensures lent { self.new.context.ghost_name ≡ self.old.context.ghost_name }
     {
         let alloc = self.context.alloc();
         let Some((name, number)) = self.find(name) else {
@@ -366,7 +386,7 @@ impl<'c, 'h, J: Naming, R: Wait + Clock> AdminHandler<'c, 'h, J, R> {
         let figures = TenantFigures {
             name: String::from_str(alloc, name)?,
             counters,
-            rows: waiting.rows,
+            usage: usage_shown(&waiting),
             ready: waiting.tenant_ready,
         };
         let mut text = Vec::new(alloc);
@@ -445,6 +465,9 @@ pub(crate) fn serve_all<'c, 'h, J, R>(
 where
     J: Naming,
     R: Threads + Wait + Clock + Sync,
+    ensures looks { OnlyLooks (length J.slots) admin.old.context.now.caller
+        admin.new.context.now.caller }
+    ensures lent { admin.new.context.ghost_name ≡ admin.old.context.ghost_name }
 {
     'clients: for _ in rt.forever() {
         if admin.signals().is_over() {
@@ -483,10 +506,25 @@ fn push_figures(
     figures.push(TenantFigures {
         name,
         counters,
-        rows: waiting.rows,
+        usage: usage_shown(&waiting),
         ready: waiting.tenant_ready,
     })?;
     Ok(())
+}
+
+/// How full a tenant is and may be, as its shard says.
+fn usage_shown(waiting: &Waiting) -> TenantUsage
+    ensures { result ≡ usage_shown waiting.now }
+{
+    let usage = &waiting.usage;
+    TenantUsage {
+        rows: usage.rows,
+        undecided_rows: usage.undecided_rows,
+        rows_limit: usage.rows_limit,
+        spans_limit: usage.spans_limit,
+        queued_batches: usage.queued_batches,
+        queued_batches_limit: usage.queued_batches_limit,
+    }
 }
 
 /// The page to look at.
@@ -555,8 +593,21 @@ fn bearer(credentials: &[u8]) -> Option<&[u8]>
     ensures { option_copied result ≡ bearer credentials.now }
 {
     if credentials.len() >= 7 && eq_ignore_case(&credentials[..7], b"bearer ") {
-        Some(&credentials[7..])
+        Some(without_spaces(&credentials[7..]))
     } else {
         None
     }
+}
+
+/// What stands behind the spaces at its front.
+fn without_spaces(mut text: &[u8]) -> &[u8]
+    ensures { result.now ≡ without_spaces text.entry.now }
+{
+    while let [first, rest @ ..] = text {
+        if *first != b' ' {
+            return text;
+        }
+        text = rest;
+    }
+    text
 }

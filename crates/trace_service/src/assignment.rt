@@ -87,7 +87,7 @@ pub(crate) fn collect_callers<'h, J: Naming, R: Wait + Clock>(
     requires no_callers { callers.items ≡ [] }
     requires no_seats { seats.items ≡ [] }
     requires own { slots_of own ≡ J.slots }
-    requires did { All (λ w. IsThread (length J.slots) J.fresh w.context.caller w.seat)
+    requires did { All (λ w. IsThread J.first (length J.slots) J.fresh w.context.caller w.seat)
         workers.items }
     ensures same_hub { IfOk result (λ r. AreCallersOf J.slots r.0.items) }
     ensures all { IfOk result (λ r. vec_len r.0 ≡ 1 + vec_len workers.entry) }
@@ -95,7 +95,8 @@ pub(crate) fn collect_callers<'h, J: Naming, R: Wait + Clock>(
         × (r.0.items ≡ own ∷ others)) }
     ensures same_lane { IfOk result (λ r. All (λ s. s.lane ≡ J.lane) r.1.items) }
     ensures all_seats { IfOk result (λ r. vec_len r.1 ≡ vec_len workers.entry) }
-    ensures threads { IfOk result (λ r. AreThreads (length J.slots) J.fresh r.0.items r.1.items) }
+    ensures threads { IfOk result (λ r. AreThreads J.first (length J.slots) J.fresh r.0.items
+        r.1.items) }
 {
     callers.push(own)?;
     while let Some(worker) = workers.pop() {

@@ -177,8 +177,8 @@ impl<'b, C: Clock> ServiceBeat<'b, C> {
         self.signals
     }
 
-    /// A beat like this, for who makes short pauses.
-    pub fn again(&self) -> ServiceBeat<'b, C> {
+    /// A beat like this, whose pauses are short.
+    pub fn with_short_pauses(&self) -> ServiceBeat<'b, C> {
         self.with(Rest::short(), Pace::of_clock())
     }
 

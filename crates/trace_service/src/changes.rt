@@ -1,15 +1,14 @@
 //! What whoever asks for a change of the tenants is told.
 
-ghost use Rattle.std.specs.Prelude.{◌≡◌, ◌≢◌, ℕ, List, [], IfOk, IfSome, option_copied, option_map, string_bytes};
+ghost use Rattle.std.specs.Prelude.{◌≡◌, ◌≢◌, ◌↔◌, ◌++◌, ℕ, List, [], IsTrue, IfOk, IfSome, codes, option_copied, option_map, string_bytes};
 ghost use Rattle.drop_ledger.specs.Ledger.{LedgerData, LedgerInvariant, ledger_of};
 ghost use Rattle.http_edge.specs.Seen.{response_of};
-ghost use Rattle.replay_script.specs.Answer.{report_text};
 ghost use Rattle.trace_service.specs.Changed.{HasWarnings, SaysCame, TellsAdded, TellsAdding, TellsCome, TellsFaulty, TellsRefused, TellsRetired, TellsRetiring, last_line, refused_reply, untold_reply, went_reply};
 
 use crate::desk::Asked;
 use crate::notice::{came, notice, shown, unknown};
 use crate::post::without_memory;
-use admin_pages::{TenantFigures, put_tenant, read_report};
+use admin_pages::{TenantFigures, TenantUsage, put_tenant, read_report};
 use http_edge::{MediaType, Reply};
 use settings_check::{Report, check};
 use std::alloc::{AllocError, Global};
@@ -132,13 +131,16 @@ fn retire_answered(alloc: Global, line: &str, name: &str) -> Result<Reply, Alloc
     requires { line.now ≢ [] }
     ensures { IfOk result (λ reply. TellsRetired name.now line.now (response_of reply)) }
 {
-    match last_counters(line, name) {
-        Some(counters) => went(alloc, name, counters),
-        None if line.starts_with("refused ") => {
-            notice(alloc, 409, "error", "the tenant stays: it holds spans")
-        }
-        None => Ok(without_memory(alloc)),
+    if let Some(counters) = last_counters(line, name) {
+        return went(alloc, name, counters);
     }
+    if is_refusal(line, name, "22") {
+        return unknown(alloc);
+    }
+    if is_refusal(line, name, "26") {
+        return notice(alloc, 409, "error", "the tenant stays: it holds spans");
+    }
+    Ok(without_memory(alloc))
 }
 
 /// The tenant of this name went with these counters.
@@ -148,7 +150,7 @@ fn went(alloc: Global, name: &str, counters: [u64; 14]) -> Result<Reply, AllocEr
     let figures = TenantFigures {
         name: String::from_str(alloc, name)?,
         counters,
-        rows: 0,
+        usage: TenantUsage::none(),
         ready: None,
     };
     let mut text = Vec::new(alloc);
@@ -162,19 +164,31 @@ fn last_counters(line: &str, name: &str) -> Option<[u64; 14]>
     ensures each { (ledger : LedgerData) → LedgerInvariant ledger
         → line.now ≡ last_line name.now ledger → option_map ledger_of result ≡ Some ledger }
 {
-    match counters_in(line, name) {
+    match text_behind(line, "report ", name) {
         Some(counters) => read_report(counters.as_bytes()),
         None => None,
     }
 }
 
-/// What stands for the counters in such a line.
-fn counters_in<'l>(line: &'l str, name: &str) -> Option<&'l str>
-    ensures only { IfSome result (λ text. line.entry.now ≡ report_text name.now text.now) }
-    ensures each { (text : List ℕ) → line.entry.now ≡ report_text name.now text
-        → option_copied result ≡ Some text }
+/// Whether a line says that the tenant of this name was refused something, by this number.
+fn is_refusal(line: &str, name: &str, number: &str) -> bool
+    ensures { IsTrue result
+        ↔ (line.now ≡ codes "refused " ++ name.now ++ codes " " ++ number.now ++ codes "\n") }
 {
-    let named = line.strip_prefix("report ")?;
+    match text_behind(line, "refused ", name) {
+        Some(other) => other == number,
+        None => false,
+    }
+}
+
+/// What stands in a line behind this word and this name.
+fn text_behind<'l>(line: &'l str, word: &str, name: &str) -> Option<&'l str>
+    ensures only { IfSome result (λ text. line.entry.now
+        ≡ word.now ++ name.now ++ codes " " ++ text.now ++ codes "\n") }
+    ensures each { (text : List ℕ) → line.entry.now
+        ≡ word.now ++ name.now ++ codes " " ++ text ++ codes "\n" → option_copied result ≡ Some text }
+{
+    let named = line.strip_prefix(word)?;
     let behind = named.strip_prefix(name)?;
     let text = behind.strip_prefix(" ")?;
     text.strip_suffix("\n")

@@ -244,7 +244,7 @@ where
             if is_looked_after && self.context.signals().is_end_asked() {
                 return;
             }
-            self.beat.again().pause();
+            self.beat.with_short_pauses().pause();
         }
         unreachable!()
     }

@@ -103,7 +103,7 @@ impl<'h, J: Naming, R: Wait + Clock> WorkerContext<'h, J, R> {
 
     /// A beat for this thread.
     pub fn beat(&self) -> ServiceBeat<'h, R> {
-        self.beat.again()
+        self.beat.with_short_pauses()
     }
 
     /// A beat for this thread, which makes turns.

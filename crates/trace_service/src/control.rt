@@ -180,8 +180,10 @@ where
         write_text(output, line.as_slice(), lost);
     }
 
-    /// Prints the reports of these tenants, in their order.
+    /// Prints the reports of these tenants, none of which holds a span any more, in their order.
     fn print_reports<O: Write>(&mut self, tenants: &[Present], output: &mut O, lost: &mut u64)
+        requires empty { AreEmptyOn self.old.context.caller (length self.old.context.hub.now)
+            (map (λ tenant. tenant.number) tenants.now) }
         ensures reported { AreReported (length self.old.context.hub.now) self.old.context.caller
             self.old.beat.last (O.contents output.old, lost.old) (map entry_of tenants.now)
             self.new.context.caller self.new.beat.last (O.contents output.new, lost.new) }
@@ -250,7 +252,7 @@ where
                 }
                 Err(AllocError) => {
                     self.context.want();
-                    self.beat.again().pause();
+                    self.beat.with_short_pauses().pause();
                 }
             }
         }
@@ -275,7 +277,7 @@ where
                 let name = tenant.name.as_str();
                 observer.observe(Stage::Sending { name });
             }
-            self.beat.again().pause();
+            self.beat.with_short_pauses().pause();
         }
         unreachable!()
     }

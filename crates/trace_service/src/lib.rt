@@ -7,11 +7,13 @@
 //! shard is locked while bytes are read, bodies are read, notes are made or payloads are sent.
 //!
 //! It stands on `shared_hub` for the shards, on `export_edge` and `job_lane` for jobs, on `http_edge`, `otlp_front` and
-//! `otlp_prepare` for bodies, on `http_line` for connections, on `tail_settings` for what it serves under, and on
-//! `replay_script` for how a report is spelled. How it starts and ends is this project's own.
+//! `otlp_prepare` for bodies, on `http_line` for connections, on `tail_settings` for what it serves under, on
+//! `settings_check` for what is told of a document, on `admin_pages` and `admin_page` for what whoever looks after it
+//! sees, and on `replay_script` for how a report is spelled. How it starts and ends is this project's own.
 #![tactic(auto)]
 
 ghost use Rattle.trace_service.specs.Jobs.{PoppedWereGiven};
+ghost use Rattle.trace_service.specs.Post.{StatusesAgree};
 
 mod admin_handler;
 mod admin_port;
@@ -70,3 +72,9 @@ pub fn popped_jobs_were_given()
 {
     job_lane::pops_were_pushed();
 }
+
+/// A message that is refused before its body is looked at and one that is refused after are told why in one spelling: a
+/// law over two definitions.
+pub fn statuses_agree()
+    ensures { StatusesAgree }
+{}

@@ -12,6 +12,7 @@ use bytes::Bytes;
 use http_edge::{Allow, MediaType, Reply};
 use otlp_front::RouteRefusal;
 use otlp_prepare::{Refusal, prepare};
+use otlp_trace::write_status;
 use shared_hub::{Caller, HubFault, SharedHub};
 use std::alloc::{AllocError, Global};
 use std::sync::Wait;
@@ -95,11 +96,13 @@ fn bad_protobuf(alloc: Global) -> Reply
 fn bad_protobuf_reply(alloc: Global) -> Result<Reply, AllocError>
     ensures { IfOk result (λ reply. response_of reply ≡ bad_request) }
 {
+    let mut body = Vec::new(alloc);
+    write_status(alloc, &mut body, "bad protobuf")?;
     Ok(Reply {
         status: 400,
         media: MediaType::Protobuf,
         allow: Allow::Post,
-        body: Vec::from_slice(alloc, b"\x12\x0cbad protobuf")?,
+        body,
     })
 }
 

@@ -275,7 +275,8 @@ where
     ensures all { IfOk result (λ r. vec_len r.0 ≡ vec_len callers) }
     ensures same_lane { IfOk result (λ r. All (λ s. s.lane ≡ J.lane) r.1.items) }
     ensures all_seats { IfOk result (λ r. vec_len r.1 ≡ vec_len seats) }
-    ensures threads { IfOk result (λ r. AreThreads (length J.slots) J.fresh r.0.items r.1.items) }
+    ensures threads { IfOk result (λ r. AreThreads J.first (length J.slots) J.fresh r.0.items
+        r.1.items) }
     ensures course { IfOk result (λ r. IsCourseIfOk (is_some start.now.admin) D.reads J.first
         (present_in roster) (length J.slots) (I.remaining console.old.input) J.fresh
         (O.contents console.old.output) r.0.items (O.contents console.new.output) r.2) }
@@ -324,7 +325,8 @@ where
     requires lane { shared.now.lane.now.name ≡ J.lane }
     requires idle { All (λ w. (w.context.caller ≡ J.fresh) × (w.seat ≡ new_seat J.lane))
         workers.old }
-    ensures did { All (λ w. IsThread (length J.slots) J.fresh w.context.caller w.seat) workers.new }
+    ensures did { All (λ w. IsThread J.first (length J.slots) J.fresh w.context.caller w.seat)
+        workers.new }
     ensures directed { IfOk result (λ lost. Directs D.reads J.first
         (I.remaining console.old.input) control.old (O.contents console.old.output, 0) control.new
         (O.contents console.new.output, lost)) }
@@ -334,7 +336,7 @@ where
         &mut ||
             requires { IsSync R.row × (shared.now.lane.now.name ≡ J.lane)
                 × All (λ w. (w.context.caller ≡ J.fresh) × (w.seat ≡ new_seat J.lane)) workers.now }
-            ensures { All (λ w. IsThread (length J.slots) J.fresh w.context.caller w.seat)
+            ensures { All (λ w. IsThread J.first (length J.slots) J.fresh w.context.caller w.seat)
                 workers.exit.now }
         { work_all(shared, workers) },
         control,

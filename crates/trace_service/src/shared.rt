@@ -185,7 +185,7 @@ impl<'h, J: Naming, R: Wait + Clock> Shared<'h, J, R> {
             self.hub,
             caller,
             shard,
-            self.beat.again(),
+            self.beat.with_short_pauses(),
         )
     }
 }

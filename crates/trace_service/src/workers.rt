@@ -4,6 +4,7 @@ ghost use Rattle.std.specs.Prelude.{◌≡◌, ◌<◌, length, All, IfSome};
 ghost use Rattle.std.specs.Thread.{IsSync};
 ghost use Rattle.job_lane.specs.Lane.{new_seat};
 ghost use Rattle.trace_service.specs.Jobs.{IsThread};
+ghost use Rattle.trace_service.specs.Shown.{OnlyLooks};
 
 use crate::admin_handler::{AdminHandler, serve_all};
 use crate::beat::ServiceBeat;
@@ -100,7 +101,8 @@ where
     requires lane { shared.now.lane.now.name ≡ J.lane }
     requires idle { All (λ w. (w.context.caller ≡ J.fresh) × (w.seat ≡ new_seat J.lane))
         workers.old }
-    ensures did { All (λ w. IsThread (length J.slots) J.fresh w.context.caller w.seat) workers.new }
+    ensures did { All (λ w. IsThread J.first (length J.slots) J.fresh w.context.caller w.seat)
+        workers.new }
 {
     let threads = workers.len();
     if threads == 0 {
@@ -113,7 +115,8 @@ where
         &|_i: usize, worker: &mut Worker<J, R>|
             requires { IsSync R.row × (shared.now.lane.now.name ≡ J.lane)
                 × (worker.old.context.caller ≡ J.fresh) × (worker.old.seat ≡ new_seat J.lane) }
-            ensures { IsThread (length J.slots) J.fresh worker.new.context.caller worker.new.seat }
+            ensures { IsThread J.first (length J.slots) J.fresh worker.new.context.caller
+                worker.new.seat }
         { work(shared, worker) },
     );
 }
@@ -126,7 +129,7 @@ where
     requires lane { shared.now.lane.now.name ≡ J.lane }
     requires fresh { worker.old.context.caller ≡ J.fresh }
     requires new { worker.old.seat ≡ new_seat J.lane }
-    ensures { IsThread (length J.slots) J.fresh worker.new.context.caller worker.new.seat }
+    ensures { IsThread J.first (length J.slots) J.fresh worker.new.context.caller worker.new.seat }
 {
     settle(worker.role, shared.beat.signals().reserve());
     if !all_arrive(&worker.context.beat(), shared.threads) {
@@ -164,7 +167,7 @@ where
                 &mut beat,
             );
         }
-        Role::Admin => look_after(shared, worker),
+        Role::Admin => look_after(shared, &mut worker.context, &mut worker.buffer),
         Role::Receiver => receive_all(
             shared.rt,
             &shared.entrance,
@@ -183,22 +186,25 @@ fn settle(role: Role, reserve: &Reserve) {
 }
 
 /// Serves those that look after the service, where anybody may.
-fn look_after<'h, J, R>(shared: &Shared<'h, J, R>, worker: &mut Worker<'h, J, R>)
+fn look_after<'h, J, R>(
+    shared: &Shared<'h, J, R>,
+    context: &mut WorkerContext<'h, J, R>,
+    buffer: &mut Vec<u8>,
+)
 where
     J: Naming,
     R: Net<Listener = TcpListener, Stream = TcpStream> + Threads + Wait + Clock + Sync,
-    ensures { worker.new.seat ≡ worker.old.seat }
+    ensures { OnlyLooks (length J.slots) context.old.caller context.new.caller }
 {
     let Some(admin) = &shared.admin else {
         return;
     };
     let mut handler = AdminHandler {
-        context: &mut worker.context,
-        port: admin.port,
+        context,
+        port: &admin.port,
         limits: shared.limits,
         lane_capacity: shared.lane.capacity(),
     };
-    let buffer = &mut worker.buffer;
     serve_all(shared.rt, &admin.entrance, &mut handler, buffer);
 }
 
@@ -246,14 +252,14 @@ impl<'h, J: Naming, R: Wait + Clock> Reception for WorkerContext<'h, J, R> {
     ghost use Rattle.trace_service.specs.Receiving.{IsTalk};
 
     // What threads told one another and who comes is not known; no shard is called meanwhile.
-    ghost looks = { λ old _ new. new.caller ≡ old.caller };
+    ghost looks = { λ old _ new. new ≡ old };
 
-    ghost takes = { λ old _ new. new.caller ≡ old.caller };
+    ghost takes = { λ old _ new. new ≡ old };
 
     // Over whatever connection, what is written are this context's replies to what is read.
     ghost serves = { λ old _ new. IsTalk ⟦<WorkerContext<'h, J, R> as Handler>⟧.answers old new };
 
-    ghost rests = { λ old new. new.caller ≡ old.caller };
+    ghost rests = { λ old new. new ≡ old };
 
     fn is_closing(&mut self) -> bool {
         self.signals().is_closing()

@@ -25,10 +25,10 @@ returns-in-Ok-clause-origin c = λ n pending held sound.
     let q = part c.args.tenant c.hold_all.new.self in
     subst (λ (k : OwnedKeys). origin_at (text_at q.texts) k.keys ≡ origin_view c.args.origin.now) (sym c.in-Ok.ensures)
     (c.in_ok-keys.ensures.texts n pending held sound ∙ (λ i. record {
-      resource = c.as_ref.ensures.value i;
-      resource_schema_url = bytes_of (c.as_ref-2.ensures.value i);
-      scope = c.as_ref-3.ensures.value i;
-      scope_schema_url = bytes_of (c.as_ref-4.ensures.value i);
+      resource = c.resource.ensures.value i;
+      resource_schema_url = bytes_of (c.resource_schema_url.ensures.value i);
+      scope = c.scope.ensures.value i;
+      scope_schema_url = bytes_of (c.scope_schema_url.ensures.value i);
     }))
 
 pub returns-in-Err-clause-others_unchanged : goal.returns-in-Err-clause-others_unchanged

@@ -6,7 +6,7 @@ use Rattle.tenant_stores.specs.Part.{Part, part}
 use Rattle.tenant_stores.specs.Trail.{HoldsAll}
 use Rattle.tenant_stores.specs.View.{text_at}
 use Rattle.otlp_prepare.specs.Arrivals.{origin_view}
-use Rattle.otlp_prepare.specs.declared.noted.SpanOrigin.{SpanOrigin}
+use Rattle.otlp_prepare.specs.Origin.{OriginTexts}
 use Rattle.tenant_pipeline.specs.Posts.{all_keys, all_text_keys}
 use Rattle.tenant_pipeline.proofs.Origins.{keys_pushed, one_more_held}
 use Rattle.tenant_pipeline.proofs.post.hold_origins.Goals as goal
@@ -24,7 +24,7 @@ returns-in-Err-clause-on_refusal c = λ n pending held sound.
 
 pub loop-origin-preserved : goal.loop-origin-preserved
 loop-origin-preserved c =
-    let origin : SpanOrigin = c.origin-item.result in
+    let origin : OriginTexts = c.origin-item.result in
     let p = part c.args.tenant c.loop-origin.stores in
     let q = part c.args.tenant c.hold_origin.new.stores in
     let made = c.in-Ok.ensures in
@@ -43,4 +43,4 @@ returns-clause-origins c = λ n pending held sound.
     let p = part c.args.tenant c.loop-origin.stores in
     let done : length c.args.origins.now ≤ c.loop-origin.origin-index = c.loop-origin-test.false in
     let texts = map (origin_at (text_at p.texts)) (all_keys c.loop-origin.all.items) in
-    sym (append-nil texts) ∙ (ap (λ (xs : List SpanOrigin). texts ++ map origin_view xs) (sym (drop_all c.loop-origin.origin-index c.args.origins.now done)) ∙ c.loop-origin.invariant.first.texts n pending held sound)
+    sym (append-nil texts) ∙ (ap (λ (xs : List OriginTexts). texts ++ map origin_view xs) (sym (drop_all c.loop-origin.origin-index c.args.origins.now done)) ∙ c.loop-origin.invariant.first.texts n pending held sound)

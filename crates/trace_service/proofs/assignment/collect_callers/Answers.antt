@@ -15,20 +15,21 @@ loop-worker-init g c = record {
   own = ([], search rules);
   same_lane = search rules;
   seats = search rules;
-  threads = no_threads _ _ c.args.own _ _ (search rules) (search rules);
+  threads = no_threads _ _ _ c.args.own _ _ (search rules) (search rules);
 }
 
 pub loop-worker-preserved : goal.loop-worker-preserved
 loop-worker-preserved g c =
+    let first = g.J.Naming.first in
     let shards = length g.J.Naming.slots in
     let fresh = g.J.Naming.fresh in
     let P : CallerState → Type 0 = λ x. slots_of x ≡ g.J.Naming.slots in
     let Q : SeatLists → Type 0 = λ s. s.lane ≡ g.J.Naming.lane in
     let before = c.loop-worker.invariant.own in
-    let popped = All-pop (λ w. IsThread shards fresh w.context.caller w.seat) c.loop-worker.workers.items c.pop.new.self.items (Some c.in-Some.worker) c.in-Some.ensures.items c.loop-worker.invariant.did in
+    let popped = All-pop (λ w. IsThread first shards fresh w.context.caller w.seat) c.loop-worker.workers.items c.pop.new.self.items (Some c.in-Some.worker) c.in-Some.ensures.items c.loop-worker.invariant.did in
     let caller = c.into_parts-caller.result.0 in
     let seat = c.into_parts-caller.result.1 in
-    let one : IsThread shards fresh caller seat = rw (c.into_parts-caller.ensures.caller, c.into_parts-caller.ensures.seat) popped.1 in
+    let one : IsThread first shards fresh caller seat = rw (c.into_parts-caller.ensures.caller, c.into_parts-caller.ensures.seat) popped.1 in
     record {
       did = popped.0;
       theirs = rw c.in_ok-push-2.ensures.items (All-push P c.loop-worker.callers.items caller c.loop-worker.invariant.theirs c.into_parts-caller.ensures.same_hub);
@@ -36,6 +37,6 @@ loop-worker-preserved g c =
       own = (before.0 ++ caller ∷ [], c.in_ok-push-2.ensures.items ∙ ap (λ cs. cs ++ caller ∷ []) before.1);
       same_lane = rw c.in_ok-push-3.ensures.items (All-push Q c.loop-worker.seats.items seat c.loop-worker.invariant.same_lane c.into_parts-caller.ensures.same_lane);
       seats = omega (arith, c.loop-worker.invariant.seats, c.in_ok-push-3.ensures.len, c.in-Some.ensures.cases);
-      threads = thread_more shards fresh c.loop-worker.callers.items _ c.loop-worker.seats.items _ caller seat c.loop-worker.invariant.threads one
+      threads = thread_more first shards fresh c.loop-worker.callers.items _ c.loop-worker.seats.items _ caller seat c.loop-worker.invariant.threads one
           c.in_ok-push-2.ensures.items c.in_ok-push-3.ensures.items;
     }

@@ -43,8 +43,8 @@ returns g c =
       one_run = c.end_hub-shards.ensures.one_run table c.requires.opened;
       one_history = c.end_hub-shards.ensures.one_history table c.requires.opened;
       seats = c.in_ok-callers.seats.items;
-      threads = threads_told (length slots) table.global.shards g.J.Naming.fresh (new_caller slots homes) callers c.in_ok-callers.seats.items
-          c.requires.shards c.requires.fresh c.in_ok-callers.ensures.threads;
+      threads = threads_told g.J.Naming.first table (length slots) table.global.shards g.J.Naming.fresh (new_caller slots homes) callers c.in_ok-callers.seats.items
+          (sym c.requires.first) c.requires.shards c.requires.fresh c.in_ok-callers.ensures.threads;
       taken = c.close-totals.result.taken;
       left = c.close-totals.result.left;
       lane = c.close-totals.ensures.run;

@@ -1,27 +1,38 @@
 use Rattle.std.proofs.Common.{ap, length, refl, subst}
+use Rattle.trace_service.specs.Post.{IsHandled}
 use Rattle.trace_service.specs.Work.{TakesAnswer, RefusesAnswer}
-use Rattle.trace_service.proofs.Jobs.{turner_did, sender_did, nothing_done}
+use Rattle.trace_service.proofs.Jobs.{turner_did, sender_did, nothing_done, only_looked}
+use Rattle.trace_service.proofs.Received.{receiver_did}
 use Rattle.trace_service.proofs.workers.work.Goals as goal
 
 pub returns-then-not-all_arrive : goal.returns-then-not-all_arrive
-returns-then-not-all_arrive g c = nothing_done (length g.J.Naming.slots) g.J.Naming.lane g.J.Naming.fresh _ c.args.worker.now.seat _ c.requires.new refl
+returns-then-not-all_arrive g c =
+    nothing_done g.J.Naming.first (length g.J.Naming.slots) g.J.Naming.lane g.J.Naming.fresh _ c.args.worker.now.seat _ c.requires.new refl
+    c.requires.fresh
 
 pub returns-in-Turner : goal.returns-in-Turner
 returns-in-Turner g c =
     let ran = c.run_turner-held in
-    turner_did (length g.J.Naming.slots) g.J.Naming.lane g.J.Naming.fresh c.args.worker.now.context ran.new.source c.args.worker.now.seat ran.new.seat _ _ _
+    turner_did g.J.Naming.first (length g.J.Naming.slots) g.J.Naming.lane g.J.Naming.fresh c.args.worker.now.context ran.new.source c.args.worker.now.seat ran.new.seat _ _ _
     (λ w. w.caller) (λ w. w.shard) _ _ c.requires.fresh c.requires.new ran.ensures.same.1 ran.ensures.work.1 (λ s t next is. is)
 
 pub returns-in-Sender : goal.returns-in-Sender
 returns-in-Sender g c =
     let ran = c.run_sender in
-    sender_did (length g.J.Naming.slots) g.J.Naming.lane g.J.Naming.fresh c.args.worker.now.context ran.new.sink c.args.worker.now.seat ran.new.seat _ _ _ _
+    sender_did g.J.Naming.first (length g.J.Naming.slots) g.J.Naming.lane g.J.Naming.fresh c.args.worker.now.context ran.new.sink c.args.worker.now.seat ran.new.seat _ _ _ _
     (λ w. w.caller) _ _ _ _ c.requires.fresh c.requires.new ran.ensures.same.1 ran.ensures.work.1
     (λ s given next is. subst (λ n. TakesAnswer s.caller next.caller n given) (ap length s.hub_is) is)
     (λ s given next is. subst (λ n. RefusesAnswer s.caller next.caller n given) (ap length s.hub_is) is)
 
 pub returns-in-Receiver : goal.returns-in-Receiver
-returns-in-Receiver g c = nothing_done (length g.J.Naming.slots) g.J.Naming.lane g.J.Naming.fresh _ c.args.worker.now.seat _ c.requires.new refl
+returns-in-Receiver g c =
+    let ran = c.receive_all in
+    receiver_did g.J.Naming.first (length g.J.Naming.slots) g.J.Naming.lane g.J.Naming.fresh c.args.worker.now.context ran.new.reception
+    c.args.worker.now.seat _ (λ w. w.caller) (λ w. w.beat.last) _ c.requires.fresh c.requires.new refl ran.ensures
+    (λ s request told next is. subst (λ n. IsHandled g.J.Naming.first s.beat.last next.beat.last s.caller next.caller n request told)
+    (ap length s.hub_is) is)
 
 pub returns-in-Admin : goal.returns-in-Admin
-returns-in-Admin g c = nothing_done (length g.J.Naming.slots) g.J.Naming.lane g.J.Naming.fresh _ c.args.worker.now.seat _ c.requires.new c.look_after.ensures
+returns-in-Admin g c =
+    only_looked g.J.Naming.first (length g.J.Naming.slots) g.J.Naming.lane g.J.Naming.fresh c.args.worker.now.context.caller _
+    c.args.worker.now.seat _ c.requires.new refl c.requires.fresh c.look_after.ensures

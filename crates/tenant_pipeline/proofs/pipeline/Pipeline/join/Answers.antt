@@ -90,7 +90,7 @@ returns-in-Ok-clause-written c = λ start first written.
     ∙ (ap (λ (f : ℕ → Option (Row TraceNote)). rows.note_of note (f c.args.number)) holds.rows ∙ ap (rows.note_of note) there)) in
     record {
       trail = subst (λ (xs : List (UndoEntry TraceNote)). Trail first xs q) (sym c.push_reserved.ensures.items)
-          (trail_more first p q c.args.journal.now.placed.items (Joined c.args.number c.in-Ok.joining.key c.in-Ok.joining.former) written.trail (k, row, note, mid, there, sym former, holds, change));
+          (trail_more first p q c.args.journal.now.placed.items (Joined c.args.number c.in-Ok.joining.former) written.trail (c.in-Ok.joining.key, k, row, note, mid, there, sym former, holds, change));
       undo = takes_back c.args.journal.now.undo start (hits_undone c.args.journal.now.hits own) own.rows c.take.new.self written.undo;
       hits = written.hits;
     }

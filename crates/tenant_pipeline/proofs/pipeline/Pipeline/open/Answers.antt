@@ -112,7 +112,7 @@ returns-in-Ok-clause-written c = λ start first written.
     let journal' : Journal = record { placed = c.push_reserved.new.self; undo = journal.undo; hits = journal.hits } in
     let done : IsWritten journal' start now first q = record {
       trail = subst (λ (xs : List (UndoEntry TraceNote)). Trail first xs q) (sym c.push_reserved.ensures.items)
-          (trail_more first p q journal.placed.items (Opened number key span.trace c.in-Ok.opening.earlier) written.trail (k, due, span.note, mid, vacant, earlier, holds, change));
+          (trail_more first p q journal.placed.items (Opened number key c.in-Ok.opening.earlier) written.trail (span.trace, k, due, span.note, mid, vacant, earlier, holds, change));
       undo = takes_back journal.undo start (hits_undone journal.hits own) now.rows now.ledger written.undo;
       hits = written.hits;
     } in

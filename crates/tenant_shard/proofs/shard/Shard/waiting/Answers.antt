@@ -12,7 +12,7 @@ returns c =
     let same = λ (tenant : ℕ). ready_all inside.stores inside.agenda inside.members.items inside.gone.items c.self.invariant.whole tenant ∙ ap (λ (vs : List View). ready_in vs tenant) c.self.view_is in
     record {
       emptiness = c.is_empty.ensures;
-      rows_are = c.rows.ensures;
+      usage_is = c.usage.ensures;
       tenant_is_ready = c.ready.ensures ∙ same c.args.tenant;
       shard_is_ready = subst (λ (moments : ℕ → Option ℕ). IsNext moments c.next.result) (fun_ext same) c.next.ensures;
     }

@@ -21,4 +21,5 @@ returns g c =
       looks = on_err c.push_figures.result _ (rw c.waiting-waiting.ensures.caller (one_looked _ _ c.args.tenant.now.number _ _ look));
       hub = c.waiting-waiting.ensures.hub ∙ c.counters.ensures.hub;
       same = c.waiting-waiting.ensures.same ∙ c.counters.ensures.same;
+      lent = c.waiting-waiting.ensures.lent ∙ c.counters.ensures.lent;
     }

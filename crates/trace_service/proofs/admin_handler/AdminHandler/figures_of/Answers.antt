@@ -8,7 +8,7 @@ use Rattle.trace_service.proofs.Shown.{all_looked, looked_more, looks_then}
 use Rattle.trace_service.proofs.admin_handler.AdminHandler.figures_of.Goals as goal
 
 pub loop-tenant-init : goal.loop-tenant-init
-loop-tenant-init g c = record { same = refl; hub = refl; looked = rw c.new-figures.ensures.items no_look }
+loop-tenant-init g c = record { same = refl; lent = refl; hub = refl; looked = rw c.new-figures.ensures.items no_look }
 
 pub loop-tenant-preserved : goal.loop-tenant-preserved
 loop-tenant-preserved g c =
@@ -16,6 +16,7 @@ loop-tenant-preserved g c =
     let told = c.in_ok-add_figures.ensures.looked in
     record {
       same = c.add_figures.ensures.same ∙ before.same;
+      lent = c.add_figures.ensures.lent ∙ before.lent;
       hub = c.add_figures.ensures.hub ∙ before.hub;
       looked = looked_more _ _ c.args.tenants.now c.loop-tenant.tenant-index c.tenant-item.result _ _ _ told.0 told.1 _
           c.loop-tenant-test.true c.tenant-item.is before.looked (rw before.hub at told.2) (rw before.hub at told.3) told.4;

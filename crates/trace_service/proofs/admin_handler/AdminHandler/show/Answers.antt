@@ -19,6 +19,7 @@ returns-in-Page g c =
       looks = looked_at c.page.result (length c.args.self.now.context.now.hub.now) (route_view c.args.asked) Page caller caller
           (ap route_view c.in-Page.is) (on_err c.page.result (caller ≡ caller) refl);
       same = refl;
+      lent = refl;
     }
 
 pub returns-in-Health : goal.returns-in-Health
@@ -32,6 +33,7 @@ returns-in-Health g c =
       looks = looked_at c.notice.result (length c.args.self.now.context.now.hub.now) (route_view c.args.asked) Health caller caller
           (ap route_view c.in-Health.is) (on_err c.notice.result (caller ≡ caller) refl);
       same = refl;
+      lent = refl;
     }
 
 pub returns-in-Readiness : goal.returns-in-Readiness
@@ -45,6 +47,7 @@ returns-in-Readiness g c =
       looks = looked_at c.readiness.result (length c.args.self.now.context.now.hub.now) (route_view c.args.asked) Readiness caller caller
           (ap route_view c.in-Readiness.is) (on_err c.readiness.result (caller ≡ caller) refl);
       same = refl;
+      lent = refl;
     }
 
 pub returns-in-Drain : goal.returns-in-Drain
@@ -58,6 +61,7 @@ returns-in-Drain g c =
       looks = looked_at c.drain.result (length c.args.self.now.context.now.hub.now) (route_view c.args.asked) Drain caller caller
           (ap route_view c.in-Drain.is) (on_err c.drain.result (caller ≡ caller) refl);
       same = refl;
+      lent = refl;
     }
 
 pub returns-in-Add : goal.returns-in-Add
@@ -71,6 +75,7 @@ returns-in-Add g c =
       looks = looked_at c.add.result (length c.args.self.now.context.now.hub.now) (route_view c.args.asked) Add caller caller
           (ap route_view c.in-Add.is) (on_err c.add.result (caller ≡ caller) refl);
       same = refl;
+      lent = refl;
     }
 
 pub returns-in-Retire : goal.returns-in-Retire
@@ -84,6 +89,7 @@ returns-in-Retire g c =
       looks = looked_at c.retire.result (length c.args.self.now.context.now.hub.now) (route_view c.args.asked) (Retire c.in-Retire.name.now) caller caller
           (ap route_view c.in-Retire.is) (on_err c.retire.result (caller ≡ caller) refl);
       same = refl;
+      lent = refl;
     }
 
 pub returns-in-NoSuchPath : goal.returns-in-NoSuchPath
@@ -97,6 +103,7 @@ returns-in-NoSuchPath g c =
       looks = looked_at c.notice-in-NoSuchPath.result (length c.args.self.now.context.now.hub.now) (route_view c.args.asked) NoSuchPath caller caller
           (ap route_view c.in-NoSuchPath.is) (on_err c.notice-in-NoSuchPath.result (caller ≡ caller) refl);
       same = refl;
+      lent = refl;
     }
 
 pub returns-in-OtherMethod : goal.returns-in-OtherMethod
@@ -110,6 +117,7 @@ returns-in-OtherMethod g c =
       looks = looked_at c.other_method.result (length c.args.self.now.context.now.hub.now) (route_view c.args.asked) (OtherMethod c.in-OtherMethod.methods.now) caller caller
           (ap route_view c.in-OtherMethod.is) (on_err c.other_method.result (caller ≡ caller) refl);
       same = refl;
+      lent = refl;
     }
 
 pub returns-in-Metrics : goal.returns-in-Metrics
@@ -121,6 +129,7 @@ returns-in-Metrics g c = record {
   looks = looked_at c.metrics.result (length c.args.self.now.context.now.hub.now) (route_view c.args.asked) Metrics
       c.args.self.now.context.now.caller _ (ap route_view c.in-Metrics.is) c.metrics.ensures.looks;
   same = c.metrics.ensures.same;
+  lent = c.metrics.ensures.lent;
 }
 
 pub returns-in-Tenants : goal.returns-in-Tenants
@@ -132,6 +141,7 @@ returns-in-Tenants g c = record {
   looks = looked_at c.tenants.result (length c.args.self.now.context.now.hub.now) (route_view c.args.asked) Tenants
       c.args.self.now.context.now.caller _ (ap route_view c.in-Tenants.is) c.tenants.ensures.looks;
   same = c.tenants.ensures.same;
+  lent = c.tenants.ensures.lent;
 }
 
 pub returns-in-Tenant : goal.returns-in-Tenant
@@ -143,4 +153,5 @@ returns-in-Tenant g c = record {
   looks = looked_at c.tenant.result (length c.args.self.now.context.now.hub.now) (route_view c.args.asked) (Tenant c.in-Tenant.name.now)
       c.args.self.now.context.now.caller _ (ap route_view c.in-Tenant.is) c.tenant.ensures.looks;
   same = c.tenant.ensures.same;
+  lent = c.tenant.ensures.lent;
 }

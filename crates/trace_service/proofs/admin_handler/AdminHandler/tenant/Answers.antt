@@ -68,7 +68,7 @@ returns-clause-shown g c =
     let later = c.in_ok-section.ensures in
     let section = c.in-Some-2.section in
     let at : section_at later.0 c.in-Some.number ≡ Some (section_view section) = sym later.2 ∙ ap (option_map section_view) c.in-Some-2.is in
-    let text = rw c.new-text.ensures.items at c.in_ok-put_settled_tenant.ensures in
+    let text = rw (c.new-text.ensures.items, c.usage_shown.ensures) at c.in_ok-put_settled_tenant.ensures in
     let seen = rw c.counters.ensures.hub at c.waiting-waiting.ensures.seen in
     rw c.waiting-waiting.ensures.caller (shown c.in-Some.number (section_view section) (ledger_of c.in-Some-3.counters) c.waiting-waiting.result
     c.in-Some.ensures.known (later.0, later.1, at)

@@ -2,7 +2,7 @@ use Rattle.trace_service.specs.Shown.{without_memory}
 use Rattle.trace_service.proofs.admin_handler.AdminHandlerHandler.handle.Goals as goal
 
 pub returns-in-Ok : goal.returns-in-Ok
-returns-in-Ok g c = (c.in-Ok.ensures.shown, c.answer.ensures.same)
+returns-in-Ok g c = (c.in-Ok.ensures.shown, c.answer.ensures.same, c.answer.ensures.lent)
 
 pub returns-in-Err : goal.returns-in-Err
-returns-in-Err g c = (without_memory c.in-Err.ensures.looks c.without_memory.ensures, c.answer.ensures.same)
+returns-in-Err g c = (without_memory c.in-Err.ensures.looks c.without_memory.ensures, c.answer.ensures.same, c.answer.ensures.lent)

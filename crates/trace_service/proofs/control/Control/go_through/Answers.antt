@@ -3,6 +3,11 @@ use Rattle.trace_service.specs.Roster.{present_in}
 use Rattle.trace_service.proofs.Coursed.{directed}
 use Rattle.trace_service.proofs.control.Control.go_through.Goals as goal
 
+pub print_reports-requires : goal.print_reports-requires
+print_reports-requires g c =
+    let waited = c.await_empty.ensures in
+    record { empty = rw (waited.hub, waited.caller, c.tenants-3.ensures) (rw c.tenants-2.ensures at waited.empty) }
+
 pub returns : goal.returns
 returns g c =
     let heard = c.read_commands-heard.ensures in

@@ -1,10 +1,10 @@
 use Rattle.std.proofs.Common.{◌≡◌, ◌++◌, length, map}
 use Rattle.admin_pages.specs.Figures.{tenant_of}
-use Rattle.admin_pages.specs.Metrics.{rows_samples}
-use Rattle.admin_pages.proofs.metrics.put_row_counts.Given as goal
+use Rattle.admin_pages.specs.Metrics.{levels_text}
+use Rattle.admin_pages.proofs.metrics.put_levels.Given as goal
 
 abbrev pub invariant-loop-tenants : goal.invariant-loop-tenants
-invariant-loop-tenants l = l.out.items ++ rows_samples (map tenant_of l.tenants) ≡ l.fn.out.items ++ rows_samples (map tenant_of l.fn.tenants)
+invariant-loop-tenants l = l.out.items ++ levels_text l.gauge (map tenant_of l.tenants) ≡ l.fn.out.items ++ levels_text l.gauge (map tenant_of l.fn.tenants)
 
 abbrev pub decreases-loop-tenants : goal.decreases-loop-tenants
 decreases-loop-tenants l = length l.tenants

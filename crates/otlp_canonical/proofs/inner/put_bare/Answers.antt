@@ -1,0 +1,38 @@
+use Rattle.std.proofs.Common.{rules, arith, ◌≡◌, ◌++◌, ◌-◌, ◌<◌, Ok, Some, true, List, length, ap, ◌∙◌, append_assoc, subst, ℕ}
+use Rattle.pb_wire.specs.Grammar.{entry}
+use Rattle.pb_wire.specs.Reading.{next_at}
+use Rattle.pb_wire.proofs.Whole.{next_shorter}
+use Rattle.otlp_canonical.proofs.Dropped.{going_none, going_kept, going_dropped, going_same}
+use Rattle.otlp_canonical.proofs.inner.put_bare.Goals as goal
+
+pub fields-init : goal.fields-init
+fields-init g c = going_none g.M.Inner.step g.M.Inner.none g.M.Inner.default g.M.Inner.Above c.defaults_change_nothing.ensures c.args.room c.args.text.now c.args.copy.now.items
+
+pub fields-preserved-then-not-is_default : goal.fields-preserved-then-not-is_default
+fields-preserved-then-not-is_default g c =
+    let d = c.saturating_sub-depth.result in
+    let at : d ≡ 101 - c.args.room = search rules in
+    let field = entry c.in-Ok-Some.field in
+    let found : next_at d c.fields.left.now ≡ Ok (Some (field, c.in-Ok-Some.rest.now)) = search rules in
+    let there : next_at (101 - c.args.room) c.fields.left.now ≡ Ok (Some (field, c.in-Ok-Some.rest.now)) = subst (λ (n : ℕ). next_at n c.fields.left.now ≡ Ok (Some (field, c.in-Ok-Some.rest.now))) at found in
+    let shorter : length c.in-Ok-Some.rest.now < length c.fields.left.now = next_shorter d c.fields.left.now field c.in-Ok-Some.rest.now found in
+    going_kept g.M.Inner.step g.M.Inner.none g.M.Inner.default g.M.Inner.Above c.defaults_change_nothing.ensures c.args.room c.args.text.now c.args.copy.now.items
+    c.fields.copy.items c.fields.from.now c.fields.left.now c.in-Ok-Some.rest.now c.fields.most c.max-most.result field shorter (omega arith) (omega arith) there c.fields.invariant
+
+pub fields-preserved : goal.fields-preserved
+fields-preserved g c =
+    let d = c.saturating_sub-depth.result in
+    let at : d ≡ 101 - c.args.room = search rules in
+    let field = entry c.in-Ok-Some.field in
+    let found : next_at d c.fields.left.now ≡ Ok (Some (field, c.in-Ok-Some.rest.now)) = search rules in
+    let there : next_at (101 - c.args.room) c.fields.left.now ≡ Ok (Some (field, c.in-Ok-Some.rest.now)) = subst (λ (n : ℕ). next_at n c.fields.left.now ≡ Ok (Some (field, c.in-Ok-Some.rest.now))) at found in
+    let is : g.M.Inner.default field ≡ true = search rules in
+    going_dropped g.M.Inner.step g.M.Inner.none g.M.Inner.default g.M.Inner.Above c.defaults_change_nothing.ensures c.args.room c.args.text.now c.args.copy.now.items
+    c.fields.copy.items c.extend_from_slice.new.self.items c.fields.from.now c.fields.left.now c.in-Ok-Some.rest.now c.fields.most c.in-Ok-Some.field.number field c.in_ok-extend_from_slice.ensures.items is (omega arith) (omega arith) (omega arith) there c.fields.invariant
+
+pub returns : goal.returns
+returns g c whole = record {
+  put = c.fields.invariant.put ++ c.fields.from.now;
+  copied = c.in_ok-extend_from_slice-2.ensures.items ∙ ap (λ (t : List ℕ). t ++ c.fields.from.now) c.fields.invariant.is ∙ append_assoc c.args.copy.now.items c.fields.invariant.put c.fields.from.now;
+  same = going_same g.M.Inner.step g.M.Inner.none g.M.Inner.default g.M.Inner.Above c.defaults_change_nothing.ensures c.args.room c.args.text.now c.args.copy.now.items c.fields.copy.items c.fields.from.now c.fields.left.now c.fields.most (omega arith) c.fields.invariant;
+}
