@@ -3,7 +3,7 @@
 [PROGRAM]`.
 
 Takes the program's path, `./trace_collector` if there is none. In a copy of what git has of the repository, with the
-program where `make` puts it, it types what README.md, docs/OPERATING.md and docs/SCRIPT.md have behind `$`, and looks
+program where `make` puts it, it types what README.md and pages of docs/ (PAGES) have behind `$`, and looks
 whether what comes is what these pages say. What proves, installs or wants another machine isn't typed: NOT_TYPED says
 why of each, and a command that is neither typed nor named there is a fault. Ports 4318 to 4320 and 9464 of this
 machine have to be free. It prints what is wrong, and ends with 1 where something is.
@@ -23,7 +23,7 @@ from serving.runs import end, run
 from serving.talk import MOST, check, wait_for
 
 HERE = Path(__file__).resolve().parent.parent
-PAGES = ("README.md", "docs/OPERATING.md", "docs/SCRIPT.md")
+PAGES = ("README.md", "docs/OPERATING.md", "docs/SIZING.md", "docs/CONNECTING.md", "docs/SCRIPT.md")
 # what isn't typed here, and why
 NOT_TYPED = {
     r"make (serve|trace_collector|deb)\b": "proves; what it runs then is typed below, or built by tests/package.py",
@@ -207,9 +207,9 @@ def tenants_and_tokens(folder):
 
 
 def replayed(folder):
-    """docs/OPERATING.md's late spans, and docs/SCRIPT.md's body from a file."""
+    """docs/SIZING.md's late spans, and docs/SCRIPT.md's body from a file."""
     terminal = Terminal(folder)
-    status, said = terminal.type(command("docs/OPERATING.md", "./trace_collector replay"))
+    status, said = terminal.type(command("docs/SIZING.md", "./trace_collector replay"))
     last = said.splitlines()[-1]
     wanted = ("active=1 ", "not_sampled=2 ", "too_early=0 ")
     check(f"the last report: {last}", (status, all(word in last for word in wanted)), (0, True))

@@ -10,6 +10,7 @@ installed, prints what is wrong, and ends with 1 where something is.
 
 import json
 import os
+import re
 import sys
 import tempfile
 import threading
@@ -31,6 +32,7 @@ NAMES = "[...document.querySelectorAll('.name')].map(it => it.textContent)"
 STATE = "document.getElementById('state').textContent"
 ACCEPTED = "[...document.querySelectorAll('details')].map(it => it.querySelector('dd').textContent)"
 ROW = "document.activeElement.querySelector('.name').textContent"
+FULL = "[...document.querySelectorAll('.full')].map(it => it.textContent)"
 FOCUSED = "document.activeElement.id || document.activeElement.tagName"
 ASKED = "performance.getEntriesByType('resource').filter(it => /tenants$/.test(it.name)).map(it => it.startTime)"
 ORDERS = ("loss", "held", "rate", "name")
@@ -43,6 +45,13 @@ LATER = ({"tenant": "calm", "accepted": 140, "undecided": 5, "pending": 10, "que
          {"tenant": "loud", "accepted": 1000, "exported": 750, "not_sampled": 100, "too_early": 100, "queue_full": 50},
          {"tenant": "<b>bold</b>", "accepted": 10, "undecided": 8, "queue_full": 2, "invalid": 30},
          {"tenant": "old", "accepted": 16, "retry_exhausted": 7, "back_end_rejected": 9})
+# How full each is then, and may be. Decided traces that are still remembered don't fill it.
+LEVELS = ({"rows": 3, "undecided_rows": 2, "rows_limit": 50_000, "spans_limit": 18, "queued_batches": 3,
+           "queued_batches_limit": 1_000},
+          {"rows": 10, "undecided_rows": 0, "rows_limit": 10, "spans_limit": 100_000, "queued_batches": 1_000,
+           "queued_batches_limit": 1_000},
+          {"rows": 7, "undecided_rows": 6, "rows_limit": 7, "spans_limit": 10, "queued_batches": 0, "queued_batches_limit": 1},
+          {"rows": 1, "undecided_rows": 1, "rows_limit": 1, "spans_limit": 1, "queued_batches": 81, "queued_batches_limit": 101})
 # Gives the page both, as if it had asked for them, and reads what it shows.
 SHOWN = """
 (() => {
@@ -60,6 +69,8 @@ SHOWN = """
   });
   const bars = [...document.querySelectorAll('#rows .bar')];
   const found = { orders, sums: texts('#sums dd'), first: texts('#first li'), rates: texts('#rows .rates') };
+  found.full = texts('#rows .full');
+  found.nearly = texts('#rows .full b');
   found.widths = bars.map((bar) => [...bar.children].map((it) => it.style.width).filter((it) => it !== '0%%'));
   found.said = bars.map((bar) => bar.getAttribute('aria-label'));
   found.all = texts('#rows details:nth-child(1) dd').slice(28, 42);
@@ -196,6 +207,10 @@ def by_keyboard(folder):
                 told = [int(text.replace(",", "")) for text in page.value(ACCEPTED)]
                 check("what was accepted", [0 < here <= figures[name]["accepted"] for here, name in
                                             zip(told, ("payments", "search", "shop"))], [True] * 3)
+                limits = [[figures[name][f"{word}_limit"] for word in ("rows", "spans", "queued_batches")]
+                          for name in ("payments", "search", "shop")]
+                check("how full each may be", [[int(most.replace(",", "")) for most in re.findall(r" of ([\d,]*\d)", text)]
+                                               for text in page.value(FULL)], limits)
                 is_sound(page, service)
 
 
@@ -262,7 +277,8 @@ def figures(folder):
         times = page.value(ASKED)
         gaps = [after - before for before, after in zip(times, times[1:])]
         check(f"it asks two seconds after an answer: {gaps} ms", gaps and all(1_900 < gap < 5_000 for gap in gaps), True)
-        given = [json.dumps([dict.fromkeys(talk.NAMES, 0) | them for them in some]) for some in (EARLIER, LATER)]
+        given = [json.dumps([dict.fromkeys(talk.NAMES, 0) | level | them for level, them in zip(LEVELS, some)])
+                 for some in (EARLIER, LATER)]
         shown = page.value(SHOWN % (*given, json.dumps(ORDERS)))
         check("sums", shown["sums"], ["4", "235", "125", "44", "48", "198"])
         check("losses", shown["first"], [
@@ -274,6 +290,14 @@ def figures(folder):
             "rate": ["loud", "calm", "<b>bold</b>", "old"], "name": ["<b>bold</b>", "calm", "loud", "old"]})
         check("rates", shown["rates"], ["15 in, 0 out, 16 lost", "20 in, 0 out, 0 lost", "200 in, 125 out, 28 lost",
                                         "0 in, 0 out, 0 lost"])
+        check("how full", shown["full"], [
+            "traces 6 of 7 (85 % full), spans 8 of 10, queue 0 of 1",
+            "traces 2 of 50,000, spans 15 of 18 (83 % full), queue 3 of 1,000",
+            "traces 0 of 10, spans 0 of 100,000, queue 1,000 of 1,000 (100 % full)",
+            "traces 1 of 1 (100 % full), spans 0 of 1, queue 81 of 101 (80 % full)"])
+        check("nearly full", shown["nearly"], [
+            "traces 6 of 7 (85 % full)", "spans 15 of 18 (83 % full)", "queue 1,000 of 1,000 (100 % full)",
+            "traces 1 of 1 (100 % full)", "queue 81 of 101 (80 % full)"])
         check("bars", shown["widths"], [
             ["20%"], ["6.25%", "93.75%"], ["12.5%", "25%", "12.5%", "50%"], ["100%"], [], ["75%", "10%", "10%", "5%"],
             [], ["43.75%", "56.25%"]])
@@ -292,8 +316,8 @@ def pictures(folder, to):
             LookedAfter(folder, three(back_end, slow), senders=8) as service, \
             Load(service, POSTS):
         time.sleep(10)
-        for name, size, dark in (("light", (1000, 410), False), ("dark", (1000, 410), True),
-                                 ("narrow", (390, 760), False)):
+        for name, size, dark in (("light", (1000, 470), False), ("dark", (1000, 470), True),
+                                 ("narrow", (390, 880), False)):
             with Browser(*size, dark) as page:
                 page.goes(f"http://127.0.0.1:{service.admin}/")
                 is_told(page)

@@ -167,8 +167,8 @@ FAULTY = [
     (TENANT.replace("[[tenant.", "max_spans = 2147483648\n[[tenant.") + TENANT.replace('"a"', '"b"'), "settings fault 15\n"
      "the document: the max_spans of all tenants are above 2147483648 together\n"),
 ]
-# what standard error is told of a good document, and the document: addresses that can't be any, and counts that are too
-# low. The smallest document leaves it at 4 senders and 10 consumers.
+# what standard error is told of a good document, and the document: addresses that can't be any or are the service's own,
+# and numbers that are too low. The smallest document leaves it at 4 senders and 10 consumers.
 FEW_SENDERS = ("warning: table global: senders is 4, and the tenants' num_consumers are 10 together: back ends that don't "
                "answer can keep every sender\n")
 SCHEME = "has a scheme, where a host, a colon and a port are wanted\n"
@@ -179,6 +179,10 @@ LISTENING = "warning: table global: listen "
 SENDING = "warning: tenant a: endpoint "
 NAMED_BY = "warning: table global: tenant_header is "
 OTHERWISE = ", which a request has for another purpose: hardly any can name a tenant by it\n"
+FEW_SPANS = ("warning: tenant a: max_spans is {}, and send_batch_size is {}: a batch is cut by timeout_ms alone, and posts can "
+             "get 429 until then\n")
+NO_RETRY = ("warning: tenant a: max_elapsed_time_ms is {}, and the delay before a retry is at least {} ms: no batch is sent "
+            "again\n")
 DOUBTS = [
     ("", ENOUGH + TENANT),
     (FEW_SENDERS.replace("is 4", "is 9"), "[global]\nsenders = 9\n" + TENANT),
@@ -198,6 +202,26 @@ DOUBTS = [
     *((f"{SENDING}{address} {wrong}" if wrong else "", ENOUGH + TENANT.replace("[[tenant.", f'endpoint = "{address}"\n[[tenant.'))
       for address, wrong in (("https://traces.example.com:443/v1/traces", SCHEME), ("traces.example.com", NO_PORT),
                              (":443", NO_HOST), ("traces.example.com:443", ""))),
+    *((f"warning: tenant a: endpoint is {address}, as listen is: the service would post to itself\n" if same else "",
+       f'[global]\nsenders = 10\n{listen}' + TENANT.replace("[[tenant.", f'endpoint = "{address}"\n[[tenant.'))
+      for listen, address, same in (("", "127.0.0.1:4318", 1), ("", "localhost:4318", 0), ("", "127.0.0.1:431", 0),
+                                    ('listen = "[::1]:4319"\n', "[::1]:4319", 1), ('listen = "[::1]:4319"\n', "[::1]:43190", 0),
+                                    ('listen = "127.0.0.1:4319"\n', "127.0.0.1:4318", 0))),
+    *((FEW_SPANS.format(*few) if few else "", ENOUGH + TENANT.replace("[[tenant.", f"{keys}\n[[tenant.")) for keys, few in (
+        ("max_spans = 8191", (8191, 8192)), ("max_spans = 8192", ()), ("max_spans = 1\nbatch.send_batch_size = 2", (1, 2)),
+        ("max_spans = 2\nbatch.send_batch_size = 2", ()), ("max_spans = 1\nbatch.timeout_ms = 1", (1, 8192)),
+        ("max_spans = 1\nbatch.timeout_ms = 0", ()), ("batch.send_batch_size = 100001", (100000, 100001)),
+        ("max_spans = 3\nbatch = { send_batch_size = 2, send_batch_max_size = 4 }", ()))),
+    *((NO_RETRY.format(*late) if late else "", ENOUGH + TENANT.replace("[[tenant.", f"retry_on_failure = {{ {keys} }}\n[[tenant."))
+      for keys, late in (
+        ("max_elapsed_time_ms = 0", ()), ("max_elapsed_time_ms = 1", ()), ("max_elapsed_time_ms = 2", (2, 2500)),
+        ("max_elapsed_time_ms = 2499", (2499, 2500)), ("max_elapsed_time_ms = 2500", ()),
+        ("initial_interval_ms = 60000, max_elapsed_time_ms = 10", (10, 30000)),
+        ("initial_interval_ms = 7, max_elapsed_time_ms = 3", (3, 4)), ("initial_interval_ms = 7, max_elapsed_time_ms = 4", ()),
+        ("initial_interval_ms = 7, max_elapsed_time_ms = 6, randomization_factor = 0", (6, 7)),
+        ("initial_interval_ms = 7, max_elapsed_time_ms = 7, randomization_factor = 0", ()),
+        ("max_elapsed_time_ms = 2, randomization_factor = 1000", ()),
+        ("max_interval_ms = 1, max_elapsed_time_ms = 2499", (2499, 2500)))),
 ]
 # a key that no setting has, in a document of one tenant, and the warning of it
 UNKNOWN = [
@@ -215,6 +239,17 @@ UNKNOWN = [
     ("", TENANT + "[tenant.retry_on_failure]\nmax_interval = 1\n", "tenant 1 (a), table retry_on_failure: no setting has the "
      "key max_interval", "max_interval_ms"),
     ("", TENANT + "threshold_ms = 1\n", "tenant 1 (a), policy 1: no setting has the key threshold_ms"),
+    ("tenants = []\n", TENANT, "the document: no setting has the key tenants", "tenant"),
+    ("pipelines = []\n", TENANT, "the document: no setting has the key pipelines", "tenant"),
+    ("policies = []\n", TENANT, "the document: no setting has the key policies"),
+    ("", TENANT.replace("[[tenant.tail_sampling.policy]]", "[tenant.tail_sampling]\npolicies = []\n[[tenant.tail_sampling.policy]]"),
+     "tenant 1 (a), table tail_sampling: no setting has the key policies", "policy"),
+    ("", TENANT.replace("[[tenant.", 'traces_endpoint = "a:1"\n[[tenant.'), "tenant 1 (a): no setting has the key traces_endpoint",
+     "endpoint"),
+    ("", TENANT.replace("[[tenant.", "memory_limiter = 1\n[[tenant."), "tenant 1 (a): no setting has the key memory_limiter",
+     "max_spans"),
+    ('[global]\nendpoint = "a:1"\n', TENANT, "table global: no setting has the key endpoint", "listen"),
+    ("[global]\nnum_consumers = 1\n", TENANT, "table global: no setting has the key num_consumers", "senders"),
     ("", TENANT + '"\\u001b[1m\\\\" = 1\n', "tenant 1 (a), policy 1: no setting has the key \\x1b[1m\\x5c"),
 ]
 

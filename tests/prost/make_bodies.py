@@ -4,7 +4,9 @@
 request.pb is the stored body. Of its spans each tenth (tenth.pb) or each (anew.pb) has an empty trace state first, so
 that its text isn't canonical. A code of 0 is written in each span's status (code.pb), a count of 0 in each event and
 link (counts.pb), or both, and three counts of 0 in each span besides (written.pb), and so with the flags before the
-name (late.pb). Half of oneN.pb and scopesN.pb, of some N bytes, is attributes of one resource, half is spans of 30
+name (late.pb). The length of each message in it is written in four bytes, but of attributes' values (long.pb), of
+these too (values.pb), or so with each event's name before its time (named.pb) and the flags before the span's name
+(client.pb). Half of oneN.pb and scopesN.pb, of some N bytes, is attributes of one resource, half is spans of 30
 bytes, in one scope or each in a scope of its own. emptyN.pb is spans of no fields. Each of the others has 100 spans
 of some 480 bytes, with 19 fields each: in their order (ordered.pb), with the flags before the name (flags.pb), there
 with a count of 0 besides (count.pb), with the name at the end (last.pb), in reverse order (reverse.pb), and so with
@@ -115,6 +117,32 @@ def flags_before_name(content):
     return b"".join(text for _, _, text in sorted(fields(content), key=place))
 
 
+def long_piece(number, text):
+    """A field whose length takes four bytes, which some clients leave before they know it."""
+    size = len(text)
+    return varint(number << 3 | 2) + bytes([size & 127 | 128, size >> 7 & 127 | 128, size >> 14 & 127 | 128,
+                                            size >> 21]) + text
+
+
+MESSAGES = {"request": {1: "group"}, "group": {2: "scope"}, "scope": {2: "span"}, "attribute": {}, "status": {},
+            "span": {9: "attribute", 11: "event", 13: "link", 15: "status"}, "event": {3: "attribute"},
+            "link": {4: "attribute"}}
+
+
+def long(text, messages, name="request"):
+    """The message with the lengths of those in it in four bytes."""
+    return b"".join(long_piece(number, long(content, messages, messages[name][number]))
+                    if number in messages[name] else spelled for number, content, spelled in fields(text))
+
+
+def name_first(content):
+    """A span whose events have their name before their time."""
+    def event(text):
+        return b"".join(spelled for _, _, spelled in sorted(fields(text), key=lambda field: field[0] != 2))
+
+    return b"".join(piece(11, event(text)) if number == 11 else spelled for number, text, spelled in fields(content))
+
+
 def some(size, make):
     found, length = [], 0
     while length < size:
@@ -201,6 +229,10 @@ def main():
     bodies |= {"code": changed(stored, with_code), "counts": changed(stored, with_counts),
                "written": changed(stored, with_all)}
     bodies["late"] = changed(bodies["written"], flags_before_name)
+    named = changed(stored, name_first)
+    bodies |= {"long": long(stored, MESSAGES), "named": long(named, MESSAGES),
+               "values": long(stored, MESSAGES | {"attribute": {2: "value"}, "value": {}}),
+               "client": long(changed(named, flags_before_name), MESSAGES)}
     for size in (65536, 524288, 4194304):
         bodies[f"one{size}"] = one(size)
         bodies[f"scopes{size}"] = scopes(size)

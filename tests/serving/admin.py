@@ -35,8 +35,6 @@ USAGE = {"rows": "otelcol_processor_tail_sampling_sampling_traces_on_memory",
 # What is there of a tenant without spans whose settings have the defaults, and what may be there (docs/SETTINGS.md).
 EMPTY = {"rows": 0, "undecided_rows": 0, "rows_limit": 50_000, "spans_limit": 100_000, "queued_batches": 0,
          "queued_batches_limit": 1000}
-# A tenant that has gone.
-GONE = dict.fromkeys(USAGE, 0)
 # What is told where spans come in (docs/HTTP.md), and what all else is counted under.
 STATUSES = ("200", "400", "403", "404", "405", "413", "415", "429", "431", "503", "other")
 JSON = "application/json"
@@ -121,6 +119,11 @@ class LookedAfter(Service):
 def figures(name, usage=EMPTY, **counts):
     """What JSON tells of a tenant that is so full, of which nothing waits."""
     return {"tenant": name, **{word: counts.get(word, 0) for word in NAMES}, **usage, "ready_at_ms": None}
+
+
+def gone(name, **counts):
+    """What JSON tells of a tenant that has gone: its last counters alone."""
+    return {"tenant": name, **{word: counts.get(word, 0) for word in NAMES}}
 
 
 def looked_at(folder):
@@ -445,8 +448,9 @@ def no_page_changes_anything(folder):
                      "Origin: https://site.example\r\nOrigin: https://site.example\r\n"):
             with LookedAfter(folder, [tenant("a", back_end)]) as service:
                 for target, method, content in (("/drain", "POST", b""), ("/tenants", "POST", document), ("/tenants/a", "DELETE", b"")):
-                    status, _, told = service.ask(target, method, content, more=page)
-                    check(f"{method} {target} of a page", (status, told), (401, b'{"error":"the token is missing or another"}'))
+                    status, fields, told = service.ask(target, method, content, more=page)
+                    check(f"{method} {target} of a page", (status, fields.get("www-authenticate"), told),
+                          (403, None, b'{"error":"a change from a page needs a token, and none is configured"}'))
                 check("it looks", service.told("/tenants", more=page), (200, {"tenants": [figures("a")]}))
                 check("it is ready", service.ask("/readyz", more=page)[0], 200)
                 check("the end", service.drained()[0], 0)
@@ -523,7 +527,7 @@ def asked_in(folder):
         check("two of them", service.told("/tenants", "POST", two.encode())[0], 422)
         service.hear()
         wait_for(lambda: service.told("/tenants/new")[1]["exported"] == 1, "it is sent")
-        check("it goes", service.told("/tenants/new", "DELETE"), (200, figures("new", GONE, accepted=1, exported=1)))
+        check("it goes", service.told("/tenants/new", "DELETE"), (200, gone("new", accepted=1, exported=1)))
         check("that is printed", service.hear(), line_of("new", accepted=1, exported=1))
         check("it has gone", service.told("/tenants/new", "DELETE"), (404, {"error": "unknown tenant"}))
         check("nobody", service.told("/tenants"), (200, {"tenants": [figures("a")]}))
@@ -556,7 +560,7 @@ def warned(folder):
         check("two of them", service.told("/tenants", "POST", plain + tenant("b", back_end).encode()),
               (422, {"error": "the document doesn't have exactly one tenant"}))
         for name in ("plain", "slips", "mark"):
-            check("it goes", service.told(f"/tenants/{name}", "DELETE"), (200, figures(name, GONE)))
+            check("it goes", service.told(f"/tenants/{name}", "DELETE"), (200, gone(name)))
         check("the end", service.drained()[0], 0)
 
 
@@ -740,6 +744,23 @@ def few_files(folder):
             check("the end", service.drained()[:2], (0, line_of("a", accepted=4, exported=4)))
 
 
+def told_of_back_ends(folder):
+    """With --verbose standard error is told of each answer of a back end but 2xx, whose it is and its status, or that
+    none came; else of none."""
+    missing, none = (b"HTTP/1.1 %d None\r\nContent-Length: 0\r\n\r\n" % status for status in (404, 204))
+    for verbose in (True, False):
+        with BackEnd(lambda number: (BUSY, missing)[number > 1]) as bank, BackEnd(none, unread=2) as shop, \
+                LookedAfter(folder, [tenant("bank", bank), tenant("shop", shop)], *["--verbose"][:verbose]) as service:
+            check("a post", service.post("bank", body(1, 1)), (200, b""))
+            wait_for(lambda: service.told("/tenants/bank")[1]["back_end_refused"] == 1, "it is refused")
+            check("a post", service.post("shop", body(2, 2)), (200, b""))
+            wait_for(lambda: service.told("/tenants/shop")[1]["exported"] == 1, "it is taken")
+            status, _, told = service.drained()
+            lines = [line for line in told.splitlines() if line.startswith(b"back end")]
+            due = [b"back end of bank: 503", b"back end of bank: 404"] + [b"back end of shop: no answer"] * 2
+            check("the end", (status, lines), (0, due if verbose else []))
+
+
 def scraped_often(folder):
     """A thousand tenants scraped each second cost less than 2 of 100 of a processor: prints how much, beside rest."""
     with BackEnd() as back_end, LookedAfter(folder, [tenant(f"tenant-{n}", back_end) for n in range(1000)]) as service:
@@ -765,5 +786,6 @@ def scraped_often(folder):
 
 TESTS = (looked_at, scraped, filled, in_force, counted, each_status, with_token, without_token, no_page_changes_anything, with_each_token,
          in_bytes, asked_in, warned, asked_out_late, drained_beside_one_that_goes,
-         drained_by_call, slow_lookers, asked_to_the_end, without_input, few_files)
+         drained_by_call, slow_lookers, asked_to_the_end, without_input, few_files,
+         told_of_back_ends)
 BY_HAND = (scraped_often,)

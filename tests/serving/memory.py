@@ -14,6 +14,8 @@ SPANS = 400_000
 ROOMS = [int(8_000_000 * 1.4 ** step) for step in range(16)]
 
 BODY = 1_000_000
+# A span waits until the end, in milliseconds.
+WAIT = 60_000
 # So many of these are more than are made ready at a time.
 LARGE, MANY, AT_A_TIME = 10_000_000, 12, 41_943_040
 IDS = piece(1, b"\1" * 16) + piece(2, b"\2" * 8)
@@ -39,8 +41,20 @@ def of_another_resource(number):
     return piece(1, piece(1, number_field(2, number)) + piece(2, SPAN))
 
 
+def of_another_scope(number):
+    """The same, and its scope is that of no other number too."""
+    return piece(1, piece(1, number_field(2, number)) + piece(2, piece(1, number_field(4, number)) + SPAN))
+
+
+def of_four_other_texts(number):
+    """The same, each text longer, and the URLs of both schemas are those of no other number too."""
+    text = b"%d" % number
+    resource = piece(1, piece(1, piece(1, text)))
+    return piece(1, piece(1, resource) + piece(2, piece(1, piece(1, text)) + SPAN + piece(3, text)) + piece(3, text))
+
+
 # What a body has again and again, or what makes it of each number from 1 on; what stands round it; and how many times its
-# bytes the body takes at most while it is made ready, of which it is one itself.
+# bytes the body takes at most while it is made ready, of which it is one itself. There is room for one of its spans.
 SHAPES = {
     "empty resource spans": (piece(1, b""), alone, 4),
     "resource spans of an empty scope spans": (piece(1, piece(2, b"")), alone, 4),
@@ -55,6 +69,11 @@ SHAPES = {
     "spans": (SPAN, in_scope, 8),
     "spans that are written anew": (piece(2, IDS + piece(3, b"")), in_scope, 8),
     "resource spans of a span, each of another resource": (of_another_resource, alone, 8),
+}
+# The same where there is room for none, so that no text is kept for a span to come.
+FULL = {
+    "resource spans of a span, each of another resource and scope": (of_another_scope, alone, 8),
+    "the same, each text another": (of_four_other_texts, alone, 8),
 }
 
 
@@ -121,10 +140,10 @@ def refused_while_made_ready(folder):
         check("the end", service.end()[::2], (0, b""))
 
 
-def times_its_bytes(folder, back_end, text):
-    """How many times its bytes a service has more at most while it makes a body ready, whose spans it has no room for,
-    and the status of the reply."""
-    with Service(folder, [tenant("a", back_end, policies=ERRORS, most=1)], shards=1, receivers=1, senders=1,
+def times_its_bytes(folder, back_end, text, wait=1):
+    """How many times its bytes a service has more at most while it makes a body ready, and the status of the reply. Its
+    tenant has room for one span, and has none while another one waits so many milliseconds."""
+    with Service(folder, [tenant("a", back_end, wait=wait, policies=ERRORS, most=1)], shards=1, receivers=1, senders=1,
                  parts=1) as service:
         service.post("a", body(1, 1))
         process = service.run.pid
@@ -140,6 +159,10 @@ def most_while_made_ready(folder):
             times, status = times_its_bytes(folder, back_end, round_it(body_of(again)))
             check(f"{shape}: {times:.1f} times its bytes, at most {most}", times <= most, True)
             check(f"{shape}: answered", status in (200, 429), True)
+        for shape, (again, round_it, most) in FULL.items():
+            times, status = times_its_bytes(folder, back_end, round_it(body_of(again)), WAIT)
+            check(f"{shape}, without room: {times:.1f} times its bytes, at most {most}", times <= most, True)
+            check(f"{shape}, without room: refused", status, 429)
 
 
 def many_large_bodies(folder):

@@ -48,7 +48,8 @@ input[type=search] { flex: 1; min-width: 100px; }
 .key i { width: 11px; height: 11px; border-radius: 3px; }
 #rows { list-style: none; margin: 8px 0; padding: 0; border-top: 1px solid var(--line); }
 #rows li { border-bottom: 1px solid var(--line); }
-summary, .heads { display: grid; grid-template-columns: minmax(90px, 1.1fr) 2fr 2fr minmax(190px, 1.2fr); gap: 12px; }
+summary, .heads { display: grid; grid-template-columns: minmax(90px, 1.1fr) 2fr 2fr minmax(190px, 1.2fr);
+  gap: 2px 12px; }
 summary { align-items: center; padding: 6px 4px; cursor: pointer; list-style: none; }
 summary::-webkit-details-marker { display: none; }
 summary:hover { background: var(--raised); }
@@ -57,6 +58,9 @@ summary:hover { background: var(--raised); }
 .bar i { height: 100%; flex: none; min-width: 0; }
 .rates { font-variant-numeric: tabular-nums; font-size: 12px; text-align: right; white-space: nowrap; }
 .rates b { color: var(--loss); }
+.full { grid-column: 1 / -1; font-size: 12px; color: var(--faint); font-variant-numeric: tabular-nums; }
+.full * { white-space: nowrap; }
+.full b { color: var(--loss); }
 .heads { font-size: 12px; color: var(--faint); padding: 0 4px; }
 .heads span:last-child { text-align: right; }
 .all { display: grid; grid-template-columns: repeat(auto-fit, minmax(150px, 1fr)); gap: 4px 16px; margin: 0;
@@ -114,6 +118,11 @@ const WORDS = {
   retry_exhausted: 'retries exhausted', back_end_refused: 'refused by the back end',
   back_end_rejected: 'rejected by the back end', invalid: 'invalid', over_budget: 'over budget',
 };
+const LEVELS = [
+  ['traces', (tenant) => tenant.undecided_rows, 'rows_limit'],
+  ['spans', (tenant) => sum(tenant, ['undecided', 'pending']), 'spans_limit'],
+  ['queue', (tenant) => tenant.queued_batches, 'queued_batches_limit'],
+];
 const PAGE = 100;
 const at = (id) => document.getElementById(id);
 const rows = new Map();
@@ -167,6 +176,13 @@ function fill(made, tenant, whole) {
   made.setAttribute('aria-label', said.length ? said.join(', ') : 'no spans');
 }
 
+function level(tenant, [word, held, limit]) {
+  const [now, most] = [held(tenant), tenant[limit]];
+  const text = word + ' ' + number(now) + ' of ' + number(most);
+  if (5 * now <= 4 * most) return element('span', '', text);
+  return element('b', '', text + ' (' + Math.floor(100 * now / most) + ' % full)');
+}
+
 function row(name) {
   const made = element('li');
   const details = element('details');
@@ -174,9 +190,10 @@ function row(name) {
   made.now = bar(WHERE);
   made.became = bar(['exported', 'not_sampled'].concat(LOSSES));
   made.rates = element('div', 'rates');
+  made.full = element('div', 'full');
   const title = element('span', 'name', name);
   title.title = name;
-  summary.append(title, made.now, made.became, made.rates);
+  summary.append(title, made.now, made.became, made.rates, made.full);
   const all = element('dl', 'all');
   made.cells = new Map();
   ['accepted'].concat(WHERE, ['exported', 'not_sampled'], LOSSES).forEach((word) => {
@@ -264,6 +281,7 @@ function showRows() {
     fill(made.became, tenant, tenant.ended);
     made.rates.replaceChildren(rate(tenant.rates.come) + ' in, ' + rate(tenant.rates.out) + ' out, ',
       element(tenant.rates.lost > 0 ? 'b' : 'span', '', rate(tenant.rates.lost) + ' lost'));
+    made.full.replaceChildren(...LEVELS.flatMap((it, i) => [i ? ', ' : '', level(tenant, it)]));
     made.cells.forEach((cell, word) => { cell.textContent = number(tenant[word]); });
     if (list.children[i] !== made) list.insertBefore(made, list.children[i] || null);
   });

@@ -49,16 +49,23 @@ abbrev pub moment_text : Option ℕ → List ℕ
 moment_text (Some moment) = decimal moment
 moment_text None = codes "null"
 
--- a tenant's figures, without the end of their object: its name, its counters under the words of a report, how full it
--- is, and when something of it is due next, in milliseconds since the start
+-- the front of a tenant's object: its name, and its counters under the words of a report
+unfoldable pub counted_text : TenantData → List ℕ
+counted_text tenant = codes "{\"tenant\":" ++ string_text tenant.name ++ counters_text tenant all_counters
+
+-- a tenant's figures, without the end of their object: behind that front how full it is, and when something of it is
+-- due next, in milliseconds since the start
 unfoldable pub figures_text : TenantData → List ℕ
 figures_text tenant =
-    codes "{\"tenant\":" ++ string_text tenant.name ++ counters_text tenant all_counters
-    ++ levels_text tenant.usage all_gauges ++ codes ",\"ready_at_ms\":" ++ moment_text tenant.ready
+    counted_text tenant ++ levels_text tenant.usage all_gauges ++ codes ",\"ready_at_ms\":" ++ moment_text tenant.ready
 
 -- a tenant's figures, as an object
 unfoldable pub tenant_text : TenantData → List ℕ
 tenant_text tenant = figures_text tenant ++ codes "}"
+
+-- the last counters of a tenant that has gone, as an object: nothing of it is there that could be full or due
+unfoldable pub gone_text : TenantData → List ℕ
+gone_text tenant = counted_text tenant ++ codes "}"
 
 -- the further members of an array
 abbrev pub further_text : List TenantData → List ℕ

@@ -2,7 +2,7 @@
 
 ghost use Rattle.std.specs.Prelude.{◌≡◌, ◌++◌, ◌<◌, map, flat_map, OnOk};
 ghost use Rattle.admin_pages.specs.Figures.{tenant_of};
-ghost use Rattle.admin_pages.specs.Json.{hex_digit, string_byte, string_text, counter_text, counters_text, level_text, levels_text, moment_text, figures_text, tenant_text, further_text, array_text, tenants_text};
+ghost use Rattle.admin_pages.specs.Json.{hex_digit, string_byte, string_text, counter_text, counters_text, level_text, levels_text, moment_text, counted_text, figures_text, tenant_text, gone_text, further_text, array_text, tenants_text};
 
 use crate::counter::SpanCounter;
 use crate::figures::{TenantFigures, TenantUsage};
@@ -45,12 +45,28 @@ pub(crate) fn put_figures(
 ) -> Result<(), AllocError>
     ensures { OnOk result (out.new.items ≡ out.old.items ++ figures_text (tenant_of tenant.now)) }
 {
-    out.extend_from_slice(b"{\"tenant\":")?;
-    put_string(out, tenant.name.as_str())?;
-    put_counters(alloc, out, tenant, &SpanCounter::all())?;
+    put_counted(alloc, out, tenant)?;
     put_levels(alloc, out, &tenant.usage, &TenantGauge::all())?;
     out.extend_from_slice(b",\"ready_at_ms\":")?;
     put_moment(alloc, out, tenant.ready)
+}
+
+/// Appends the object of a tenant that has gone, with its last counters. How full it was and what was due isn't told.
+#[tactic(auto, using(crate::proofs::Joined::more), unfolding(crate::specs::Json::gone_text))]
+pub fn put_gone(alloc: Global, out: &mut Vec<u8>, tenant: &TenantFigures) -> Result<(), AllocError>
+    ensures { OnOk result (out.new.items ≡ out.old.items ++ gone_text (tenant_of tenant.now)) }
+{
+    put_counted(alloc, out, tenant)?;
+    out.extend_from_slice(b"}")
+}
+
+/// Appends the front of a tenant's object.
+fn put_counted(alloc: Global, out: &mut Vec<u8>, tenant: &TenantFigures) -> Result<(), AllocError>
+    ensures { OnOk result (out.new.items ≡ out.old.items ++ counted_text (tenant_of tenant.now)) }
+{
+    out.extend_from_slice(b"{\"tenant\":")?;
+    put_string(out, tenant.name.as_str())?;
+    put_counters(alloc, out, tenant, &SpanCounter::all())
 }
 
 /// Appends these gauges of a tenant that is so full, as members.

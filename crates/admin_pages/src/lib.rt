@@ -16,7 +16,7 @@ mod token;
 pub use crate::counter::{MetricKind, SpanCounter};
 pub use crate::figures::{TenantFigures, TenantUsage};
 pub use crate::gauge::TenantGauge;
-pub use crate::json::{put_string, put_tenant, put_tenants};
+pub use crate::json::{put_gone, put_string, put_tenant, put_tenants};
 pub use crate::metrics::{Sample, put_measure, put_measures, put_tenant_metrics};
 pub use crate::report::read_report;
 pub use crate::route::{AdminRoute, admin_route};

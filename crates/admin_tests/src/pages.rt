@@ -2,7 +2,8 @@
 
 use crate::figures::{EACH, HALF_FULL, due, tenant, with_usage};
 use admin_pages::{
-    MetricKind, TenantUsage, put_measure, put_string, put_tenant, put_tenant_metrics, put_tenants,
+    MetricKind, TenantUsage, put_gone, put_measure, put_string, put_tenant, put_tenant_metrics,
+    put_tenants,
 };
 use std::test::Fail;
 
@@ -141,19 +142,33 @@ nimchaes_lane_jobs 3\n"
     Ok(())
 }
 
-/// What a tenant of EACH is, behind its name.
-const EACH_MEMBERS: &str =
+/// The counters of EACH.
+const EACH_COUNTERS: &str =
     ",\"accepted\":77,\"undecided\":2,\"pending\":3,\"queued\":4,\"active\":5,\"exported\":6,\
 \"not_sampled\":7,\"too_early\":8,\"queue_full\":9,\"retry_exhausted\":10,\"back_end_refused\":11,\
-\"back_end_rejected\":12,\"invalid\":13,\"over_budget\":14,\"rows\":0,\"undecided_rows\":0,\
-\"rows_limit\":0,\"spans_limit\":0,\"queued_batches\":0,\"queued_batches_limit\":0,\"ready_at_ms\":null}";
+\"back_end_rejected\":12,\"invalid\":13,\"over_budget\":14";
+
+/// What stands behind the counters of a tenant that isn't full and waits for nothing.
+const EMPTY_MEMBERS: &str =
+    ",\"rows\":0,\"undecided_rows\":0,\"rows_limit\":0,\"spans_limit\":0,\"queued_batches\":0,\
+\"queued_batches_limit\":0,\"ready_at_ms\":null}";
 
 #[test]
 fn a_tenant_is_an_object(rt: HostRuntime) -> Result<(), Fail> {
     let alloc = rt.alloc();
     let mut text = Vec::new(alloc);
     put_tenant(alloc, &mut text, &tenant(alloc, "shop", EACH)?)?;
-    let wanted = format!(in alloc; "{{\"tenant\":\"shop\"{EACH_MEMBERS}")?;
+    let wanted = format!(in alloc; "{{\"tenant\":\"shop\"{EACH_COUNTERS}{EMPTY_MEMBERS}")?;
+    assert!(rt; text.as_slice() == wanted.as_bytes());
+    Ok(())
+}
+
+#[test]
+fn one_that_has_gone_has_its_counters_alone(rt: HostRuntime) -> Result<(), Fail> {
+    let alloc = rt.alloc();
+    let mut text = Vec::new(alloc);
+    put_gone(alloc, &mut text, &tenant(alloc, "shop", EACH)?)?;
+    let wanted = format!(in alloc; "{{\"tenant\":\"shop\"{EACH_COUNTERS}}}")?;
     assert!(rt; text.as_slice() == wanted.as_bytes());
     Ok(())
 }
@@ -184,8 +199,10 @@ fn tenants_stand_in_an_array(rt: HostRuntime) -> Result<(), Fail> {
     let mut text = Vec::new(alloc);
     let tenants = [tenant(alloc, "a", EACH)?, tenant(alloc, "b", EACH)?];
     put_tenants(alloc, &mut text, &tenants)?;
+    let members = format!(in alloc; "{EACH_COUNTERS}{EMPTY_MEMBERS}")?;
+    let members = members.as_str();
     let wanted = format!(in alloc;
-        "{{\"tenants\":[{{\"tenant\":\"a\"{EACH_MEMBERS},{{\"tenant\":\"b\"{EACH_MEMBERS}]}}"
+        "{{\"tenants\":[{{\"tenant\":\"a\"{members},{{\"tenant\":\"b\"{members}]}}"
     )?;
     assert!(rt; text.as_slice() == wanted.as_bytes());
     Ok(())

@@ -16,6 +16,9 @@ pub trait Line {
     // How many reads into room gave no byte.
     ghost ends: { Self → ℕ };
 
+    // No byte is left to read, where that can be known.
+    ghost at_end: { Self → Type 0 };
+
     // How many calls have failed, up to 2 ^ 64 - 1.
     ghost failed: { Self → ℕ };
 
@@ -28,6 +31,7 @@ pub trait Line {
         ensures bytes { IfOk result (λ n. gives self.old self.new (take n room.new)) }
         ensures on_error { OnErr result (gives self.old self.new []) }
         ensures end { ends self.new ≡ ends self.old + met_end (length room.old) result }
+        ensures at_end { IfOk result (λ n. n ≡ 0 → 0 < length room.old → at_end self.new) }
         ensures failed { failed self.new ≡ raised (failed self.old) result }
         ensures budget { OnOk result (reads_left self.new < reads_left self.old) };
 

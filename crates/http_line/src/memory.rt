@@ -113,7 +113,7 @@ fn give(bytes: &[u8], at: usize, count: usize, room: &mut [u8])
 }
 
 impl Line for MemoryLine {
-    ghost use Rattle.std.specs.Prelude.{◌≡◌, ◌++◌, drop};
+    ghost use Rattle.std.specs.Prelude.{◌≡◌, [], ◌++◌, drop};
 
     // The bytes read are the next of the input, and those written come behind the output. Nothing else moves.
     ghost gives = { λ old new bytes. (drop old.at old.input.items ≡ bytes ++ drop new.at new.input.items)
@@ -123,6 +123,8 @@ impl Line for MemoryLine {
         × (drop new.at new.input.items ≡ drop old.at old.input.items) };
 
     ghost ends = { λ line. line.ends };
+
+    ghost at_end = { λ line. drop line.at line.input.items ≡ [] };
 
     ghost failed = { λ line. line.failures };
 

@@ -47,7 +47,7 @@ impl<S: Read + Write> StreamLine<S> {
 }
 
 impl<S: Read + Write> Line for StreamLine<S> {
-    ghost use Rattle.std.specs.Io.KnownBytes.{Appends, Consumes};
+    ghost use Rattle.std.specs.Io.KnownBytes.{Appends, Consumes, IsAtEnd};
 
     // What is read is what the stream loses, and what is written is what it takes, where the stream says what it has.
     ghost gives = { λ old new bytes. Consumes (S.remaining old.stream) (S.remaining new.stream) bytes };
@@ -55,6 +55,8 @@ impl<S: Read + Write> Line for StreamLine<S> {
     ghost takes = { λ old new bytes. Appends (S.contents old.stream) (S.contents new.stream) bytes };
 
     ghost ends = { λ line. line.ends };
+
+    ghost at_end = { λ line. IsAtEnd (S.remaining line.stream) };
 
     ghost failed = { λ line. line.failures };
 

@@ -27,19 +27,19 @@ pub record Going {A : Type 0} (step : ℕ → Step A) (none : A) (Above : ℕ �
   pub is : copy ≡ old ++ put
   pub so_far : Dropped (step (room - 1)) none Above (101 - room) text put from left most
 
+-- a field, and then the others
+pub front_walked : {A : Type 0} (step : Step A) (d : ℕ) (a : A) (front rest : List ℕ) (field : Entry) → IsField d front field → walk step d a (front ++ rest) ≡ (step a field front >>= λ b. walk step d b rest)
+front_walked step d a front rest field first =
+    walk_step step d a (front ++ rest) ∙ ap (onward step (walk step d) a (front ++ rest)) (begins_at d front rest field first)
+    ∙ ap (λ (spelled : List ℕ). step a field spelled >>= λ b. walk step d b rest) (before_rest front rest)
+
 module _ {A : Type 0} (step : ℕ → Step A) (none : A) (default : Entry → Bool) (Above : ℕ → A → Type 0) (laws : DefaultLaws step none default Above) (inner d : ℕ) where
   pub none_dropped : (text : List ℕ) → Dropped (step inner) none Above d text [] text text 0
   none_dropped text = record { skipped = []; parts = refl; state = Ok none; copied = λ rest. refl; whole = refl; defaults = laws.first }
 
-  -- a field, and then the others
-  front_walked : (s : A) (front rest : List ℕ) (field : Entry) → IsField d front field → walk (step inner) d s (front ++ rest) ≡ (step inner s field front >>= λ t. walk (step inner) d t rest)
-  front_walked s front rest field first =
-      walk_step (step inner) d s (front ++ rest) ∙ ap (onward (step inner) (walk (step inner) d) s (front ++ rest)) (begins_at d front rest field first)
-      ∙ ap (λ (spelled : List ℕ). step inner s field spelled >>= λ t. walk (step inner) d t rest) (before_rest front rest)
-
   state_walked : (state : Result A ReadFault) (front rest : List ℕ) (field : Entry) → IsField d front field
       → (state >>= λ s. walk (step inner) d s (front ++ rest)) ≡ ((state >>= λ s. step inner s field front) >>= λ t. walk (step inner) d t rest)
-  state_walked (Ok s) front rest field first = front_walked s front rest field first
+  state_walked (Ok s) front rest field first = front_walked (step inner) d s front rest field first
   state_walked (Err f) front rest field first = refl
 
   state_leaves : (state : Result A ReadFault) (low high : ℕ) (field : Entry) (spelled : List ℕ) → low ≤ high → field.number ≤ high → IfOk state (Above low) → IfOk (state >>= λ s. step inner s field spelled) (Above high)

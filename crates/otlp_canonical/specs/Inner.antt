@@ -2,12 +2,10 @@
 -- Field Values", over the fields of `Status`, `Span.Event` and `Span.Link` of OTLP 1.x's trace.proto).
 use Rattle.std.specs.Prelude.{◌≡◌, ◌==◌, ◌&&◌, ◌||◌, ◌<◌, ◌≤◌, ◌^◌, ℕ, pos, Bool, true, false, List, [], ◌++◌, length, Ok, IfOk}
 use Rattle.pb_wire.specs.Grammar.{Datum, Varint, Eight, Bytes, Four, Entry}
-use Rattle.otlp_trace.specs.Data.{StatusData, EventData, LinkData, SpanData}
+use Rattle.otlp_trace.specs.Data.{StatusData, EventData, LinkData}
 use Rattle.otlp_trace.specs.Text.{bytes_field}
 use Rattle.otlp_read.specs.Numbers.{fixed32, fixed64}
-use Rattle.otlp_read.specs.Value.{span_step}
 use Rattle.otlp_read.specs.Walk.{◌>>=◌, Step, walk, read_with}
-use Rattle.otlp_canonical.specs.Defaults.{DefaultsAbove}
 
 -- this value is the default of a status' field of this number
 abbrev pub status_default_at : ℕ → Datum → Bool
@@ -85,11 +83,12 @@ pub record FieldAlike {A : Type 0} (step : ℕ → Step A) (none : A) (room numb
   pub short : length put < 2 ^ 64
   pub same : read_with step room none text ≡ read_with step room none put
 
--- Behind what stood there, a text that makes of a span what the field makes of it, if the fields of numbers above this
--- one are at their defaults.
-pub record PutFor (inner d most : ℕ) (field : Entry) (old new : List ℕ) : Type 0 where
+-- Behind what stood there, a text that makes of a message what the field makes of it, if the fields of numbers above
+-- this one are at their defaults.
+pub record PutFor {A : Type 0} (step : ℕ → Step A) (Above : ℕ → A → Type 0) (inner d most : ℕ) (field : Entry)
+    (old new : List ℕ) : Type 0 where
   pub put : List ℕ
   pub copied : new ≡ old ++ put
-  pub alike : (s : SpanData) (spelled rest : List ℕ) → DefaultsAbove most s
-      → walk (span_step inner) d s (put ++ rest)
-      ≡ (span_step inner s field spelled >>= λ t. walk (span_step inner) d t rest)
+  pub alike : (a : A) (spelled rest : List ℕ) → Above most a
+      → walk (step inner) d a (put ++ rest)
+      ≡ (step inner a field spelled >>= λ b. walk (step inner) d b rest)

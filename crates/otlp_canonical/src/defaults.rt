@@ -1,16 +1,18 @@
-//! Spans that are canonical but for defaults that are written out. The Protocol Buffers encoding allows that, and some
-//! clients do it for fields that they always have in hand, such as the parent of a span that has none.
+//! Spans that are canonical but for defaults that are written out, or lengths longer than they have to be. The Protocol
+//! Buffers encoding allows that, and some clients do it: for fields that they always have in hand, such as the parent
+//! of a span that has none, and for messages that they write before they know how long these are.
 
 ghost use Rattle.std.specs.Prelude.{◌≡◌, ℕ, true, IfOk, IfSome};
 ghost use Rattle.pb_wire.specs.Grammar.{entry};
 ghost use Rattle.otlp_canonical.specs.Canonical.{CanonicalCopy};
-ghost use Rattle.otlp_canonical.specs.Defaults.{holds_default};
+ghost use Rattle.otlp_canonical.specs.Defaults.{DefaultsAbove, holds_default};
 ghost use Rattle.otlp_canonical.specs.Inner.{PutFor};
 ghost use Rattle.otlp_trace.specs.Defaults.{no_span};
 ghost use Rattle.otlp_read.specs.Value.{span_step};
 ghost use Rattle.otlp_read.specs.Walk.{read_with};
 
-use crate::inner::{defaults_size, put_message};
+use crate::attribute::{field_size, put_attribute};
+use crate::inner::{put_message, spare_size};
 use crate::text::is_span_text;
 use otlp_trace::{Event, Link, Status};
 use pb_wire::{Field, Value, next_field};
@@ -29,38 +31,47 @@ fn is_default(field: Field<'_>) -> bool
     }
 }
 
-/// How many bytes of the message that a span's field holds are defaults that are written out.
-fn defaults_inside(field: Field<'_>, room: u32) -> usize {
+/// How many bytes of the message in a span's field, which takes so many, need not be there: defaults that are written
+/// out, and lengths longer than they have to be. None where the field stays as it is.
+fn spare_inside(field: Field<'_>, size: usize, room: u32) -> Option<usize> {
     let Value::Bytes(text) = field.value else {
-        return 0;
+        return None;
     };
-    match field.number {
-        11 => defaults_size::<Event>(text, room),
-        13 => defaults_size::<Link>(text, room),
-        15 => defaults_size::<Status>(text, room),
-        _ => 0,
+    let spare = match field.number {
+        9 => 0,
+        11 => spare_size::<Event>(text, room),
+        13 => spare_size::<Link>(text, room),
+        15 => spare_size::<Status>(text, room),
+        _ => return None,
+    };
+    if spare > 0 || size > field_size(text.len()) {
+        Some(spare)
+    } else {
+        None
     }
 }
 
-/// Appends a span's field without the defaults in the message that it holds, which are of so many bytes, behind fields
-/// of numbers up to `most`. Tells whether it did: a status that stands again is merged with the one that stands.
+/// Appends a span's field without so many bytes of its message that need not be there, behind fields of numbers up to
+/// `most`. Tells whether it did: a status that stands again is merged with the one that stands.
 fn put_inside(
     copy: &mut Vec<u8>,
     field: Field<'_>,
-    defaults: usize,
+    spare: usize,
     most: u32,
     room: u32,
 ) -> Result<bool, AllocError>
     ensures { (d : ℕ) → IfOk result (λ whole. whole ≡ true
-        → PutFor room d most (entry field.entry) copy.old.items copy.new.items) }
+        → PutFor span_step DefaultsAbove room d most (entry field.entry)
+        copy.old.items copy.new.items) }
 {
     let Value::Bytes(text) = field.value else {
         return Ok(false);
     };
     let whole = match field.number {
-        11 => put_message::<Event>(copy, 11, text, defaults, room)?,
-        13 => put_message::<Link>(copy, 13, text, defaults, room)?,
-        15 if most < 15 => put_message::<Status>(copy, 15, text, defaults, room)?,
+        9 => put_attribute(copy, 9, text, room)?,
+        11 => put_message::<Event>(copy, 11, text, spare, room)?,
+        13 => put_message::<Link>(copy, 13, text, spare, room)?,
+        15 if most < 15 => put_message::<Status>(copy, 15, text, spare, room)?,
         _ => false,
     };
     Ok(whole)
@@ -71,12 +82,13 @@ fn put_inside(
 fn put_bare(
     copy: &mut Vec<u8>,
     field: Field<'_>,
-    defaults: usize,
+    spare: usize,
     most: u32,
     room: u32,
 ) -> Result<bool, AllocError>
     ensures { (d : ℕ) → IfOk result (λ whole. whole ≡ true
-        → PutFor room d most (entry field.entry) copy.old.items copy.new.items) }
+        → PutFor span_step DefaultsAbove room d most (entry field.entry)
+        copy.old.items copy.new.items) }
 {
     if is_default(field) {
         return Ok(most < field.number);
@@ -84,11 +96,11 @@ fn put_bare(
     if field.number < most {
         return Ok(false);
     }
-    put_inside(copy, field, defaults, most, room)
+    put_inside(copy, field, spare, most, room)
 }
 
-/// The text without the defaults that stand in it, or none where no default does, or where one stands behind a field of
-/// its own number or a greater one: it may take back what came before.
+/// The text without the defaults that stand in it, and with short lengths, or none where it is so already, or where a
+/// default stands behind a field of its own number or a greater one: it may take back what came before.
 fn dropped(alloc: Global, text: &[u8], room: u32) -> Result<Option<Vec<u8>>, AllocError>
     ensures { IfOk result (λ found. IfSome found (λ copy.
         read_with span_step room no_span text.now
@@ -104,15 +116,15 @@ fn dropped(alloc: Global, text: &[u8], room: u32) -> Result<Option<Vec<u8>>, All
     let mut left = text;
     let mut most = 0u32;
     'fields: while let Ok(Some((field, rest))) = next_field(left, depth) {
-        let defaults = defaults_inside(field, room - 1);
-        let stays = defaults == 0 && !is_default(field);
+        let spare = spare_inside(field, left.len() - rest.len(), room - 1);
+        let stays = spare.is_none() && !is_default(field);
         if stays {
             most = most.max(field.number);
             left = rest;
             continue;
         }
         copy.extend_from_slice(&from[..from.len() - left.len()])?;
-        if !put_bare(&mut copy, field, defaults, most, room - 1)? {
+        if !put_bare(&mut copy, field, spare.unwrap_or(0), most, room - 1)? {
             return Ok(None);
         }
         most = most.max(field.number);
@@ -129,8 +141,9 @@ fn dropped(alloc: Global, text: &[u8], room: u32) -> Result<Option<Vec<u8>>, All
 /// A span's canonical text, where the given text is that but for defaults that are written out; with room for so many
 /// levels, as in `is_span_text`. Else none, and nothing is said of the text.
 ///
-/// A default is looked for in the span and in its status, events and links, and in no attribute. The text may have some
-/// bytes of room more than it takes: at most 38 for each default.
+/// A default is looked for in the span and in its status, events and links, and in no attribute. What holds of defaults
+/// holds of lengths that are longer than they have to be, of the messages and attributes in the span. The text may have
+/// some bytes of room more than it takes: at most 38 for each default, and 18 for each length.
 pub fn without_defaults(
     alloc: Global,
     text: &[u8],

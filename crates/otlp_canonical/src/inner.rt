@@ -1,13 +1,16 @@
-//! Messages inside a span that are copied without the defaults that are written in them.
+//! Messages inside a span that are copied without the defaults that are written in them, and with lengths as short as
+//! they can be.
 
-ghost use Rattle.std.specs.Prelude.{◌≡◌, ◌<◌, ℕ, Bool, true, IfOk};
+ghost use Rattle.std.specs.Prelude.{◌≡◌, ◌==◌, ◌<◌, ℕ, Bool, true, false, IfOk};
 ghost use Rattle.pb_wire.specs.Grammar.{Entry, entry};
 ghost use Rattle.otlp_trace.specs.Data.{StatusData, EventData, LinkData};
 ghost use Rattle.otlp_trace.specs.Defaults.{no_status, no_event, no_link};
 ghost use Rattle.otlp_read.specs.Value.{status_step, event_step, link_step};
 ghost use Rattle.otlp_read.specs.Walk.{Step};
-ghost use Rattle.otlp_canonical.specs.Inner.{status_default, event_default, link_default, StatusDefaults, EventDefaults, LinkDefaults, DefaultLaws, ReadAlike, FieldAlike};
+ghost use Rattle.otlp_canonical.specs.Attribute.{AttributeLaws};
+ghost use Rattle.otlp_canonical.specs.Inner.{status_default, event_default, link_default, StatusDefaults, EventDefaults, LinkDefaults, DefaultLaws, ReadAlike, FieldAlike, PutFor};
 
+use crate::attribute::{attribute_size, field_size, put_attribute};
 use otlp_trace::{Event, Link, Status};
 use pb_wire::{Field, Value, WireType, next_field, put_tag, put_varint};
 use std::alloc::AllocError;
@@ -25,27 +28,78 @@ pub trait Inner {
     /// Whichever field of one value has a number above this one is at its default.
     ghost Above: { ℕ → Data → Type 0 };
 
+    ghost attribute: { ℕ → Bool };
+
     /// Whether a field of one value holds its default.
     fn is_default(field: Field<'_>) -> bool
         ensures { result ≡ default (entry field.entry) };
 
+    /// Whether the field of this number holds attributes.
+    fn is_attribute(number: u32) -> bool
+        ensures { result ≡ attribute number };
+
     /// A default behind fields of smaller numbers changes nothing.
     fn defaults_change_nothing()
         ensures { DefaultLaws step none default Above };
+
+    /// An attribute may be spelled as any that is read as the same.
+    fn attributes_are_read()
+        ensures { AttributeLaws step attribute };
 }
 
-/// How many bytes of the message are defaults that are written out.
-pub fn defaults_size<M: Inner>(text: &[u8], room: u32) -> usize {
+/// How many bytes of the field, which takes so many, need not be there: all where it is a default that is written out,
+/// and those that the lengths of an attribute need not have. In an attribute whose own length is as short as it can be
+/// none is looked for.
+fn spare_in<M: Inner>(field: Field<'_>, size: usize, room: u32) -> usize {
+    if M::is_default(field) {
+        return size;
+    }
+    let Value::Bytes(text) = field.value else {
+        return 0;
+    };
+    if !M::is_attribute(field.number) || size <= field_size(text.len()) {
+        return 0;
+    }
+    size.saturating_sub(field_size(attribute_size(text, room)))
+}
+
+/// How many bytes of the message need not be there, likewise.
+pub fn spare_size<M: Inner>(text: &[u8], room: u32) -> usize {
     let depth = 101u32.saturating_sub(room);
-    let mut size = 0usize;
+    let mut spare = 0usize;
     let mut left = text;
     'fields: while let Ok(Some((field, rest))) = next_field(left, depth) {
-        if M::is_default(field) {
-            size = size.saturating_add(left.len() - rest.len());
-        }
+        let size = left.len() - rest.len();
+        spare = spare.saturating_add(spare_in::<M>(field, size, room.saturating_sub(1)));
         left = rest;
     }
-    size
+    spare
+}
+
+/// Appends what a field is without its default, or its attribute with short lengths, behind fields of numbers up to
+/// `most`. Tells whether it did: a default may take back what came before it.
+fn put_field<M: Inner>(
+    copy: &mut Vec<u8>,
+    field: Field<'_>,
+    most: u32,
+    room: u32,
+) -> Result<bool, AllocError>
+    ensures { (d : ℕ) → IfOk result (λ whole. whole ≡ true
+        → PutFor M.step M.Above room d most (entry field.entry) copy.old.items copy.new.items) }
+{
+    M::defaults_change_nothing();
+    M::attributes_are_read();
+    if M::is_default(field) {
+        return Ok(most < field.number);
+    }
+    let Value::Bytes(text) = field.value else {
+        return Ok(false);
+    };
+    if !M::is_attribute(field.number) {
+        return Ok(false);
+    }
+    let whole = put_attribute(copy, field.number, text, room)?;
+    Ok(whole)
 }
 
 /// Appends the message without the defaults that stand in it. Tells whether it did: it doesn't where a default stands
@@ -64,16 +118,16 @@ fn put_bare<M: Inner>(copy: &mut Vec<u8>, text: &[u8], room: u32) -> Result<bool
     let mut left = text;
     let mut most = 0u32;
     'fields: while let Ok(Some((field, rest))) = next_field(left, depth) {
-        if !M::is_default(field) {
+        if spare_in::<M>(field, left.len() - rest.len(), room - 1) == 0 {
             most = most.max(field.number);
             left = rest;
             continue;
         }
-        if field.number <= most {
+        copy.extend_from_slice(&from[..from.len() - left.len()])?;
+        if !put_field::<M>(copy, field, most, room - 1)? {
             return Ok(false);
         }
-        copy.extend_from_slice(&from[..from.len() - left.len()])?;
-        most = field.number;
+        most = most.max(field.number);
         from = rest;
         left = rest;
     }
@@ -81,12 +135,12 @@ fn put_bare<M: Inner>(copy: &mut Vec<u8>, text: &[u8], room: u32) -> Result<bool
     Ok(true)
 }
 
-/// Appends a field of this number with the message, without so many bytes of defaults. Tells whether it did.
+/// Appends a field of this number with the message, without so many bytes that need not be there. Tells whether it did.
 pub fn put_message<M: Inner>(
     copy: &mut Vec<u8>,
     number: u32,
     text: &[u8],
-    defaults: usize,
+    spare: usize,
     room: u32,
 ) -> Result<bool, AllocError>
     requires some { 0 < number }
@@ -94,7 +148,7 @@ pub fn put_message<M: Inner>(
     ensures { IfOk result (λ whole. whole ≡ true
         → FieldAlike M.step M.none room number text.now copy.old.items copy.new.items) }
 {
-    let size = text.len().saturating_sub(defaults);
+    let size = text.len().saturating_sub(spare);
     put_tag(copy, number, WireType::Bytes)?;
     put_varint(copy, size as u64)?;
     let start = copy.len();
@@ -115,6 +169,8 @@ impl Inner for Status {
 
     ghost Above = { StatusDefaults };
 
+    ghost attribute = { λ n. false };
+
     fn is_default(field: Field<'_>) -> bool {
         match field.value {
             Value::Bytes(bytes) => field.number == 2 && bytes.is_empty(),
@@ -123,7 +179,13 @@ impl Inner for Status {
         }
     }
 
+    fn is_attribute(_number: u32) -> bool {
+        false
+    }
+
     fn defaults_change_nothing() {}
+
+    fn attributes_are_read() {}
 }
 
 impl Inner for Event {
@@ -137,6 +199,8 @@ impl Inner for Event {
 
     ghost Above = { EventDefaults };
 
+    ghost attribute = { λ n. n == 3 };
+
     fn is_default(field: Field<'_>) -> bool {
         match field.value {
             Value::Eight(bytes) => field.number == 1 && u64::from_le_bytes(bytes) == 0,
@@ -146,7 +210,13 @@ impl Inner for Event {
         }
     }
 
+    fn is_attribute(number: u32) -> bool {
+        number == 3
+    }
+
     fn defaults_change_nothing() {}
+
+    fn attributes_are_read() {}
 }
 
 impl Inner for Link {
@@ -160,6 +230,8 @@ impl Inner for Link {
 
     ghost Above = { LinkDefaults };
 
+    ghost attribute = { λ n. n == 4 };
+
     fn is_default(field: Field<'_>) -> bool {
         match field.value {
             Value::Bytes(bytes) => matches!(field.number, 1..=3) && bytes.is_empty(),
@@ -169,5 +241,11 @@ impl Inner for Link {
         }
     }
 
+    fn is_attribute(number: u32) -> bool {
+        number == 4
+    }
+
     fn defaults_change_nothing() {}
+
+    fn attributes_are_read() {}
 }

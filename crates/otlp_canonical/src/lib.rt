@@ -11,6 +11,7 @@
 //! Protocol Buffers encoding guide, over the messages of OTLP 1.x.
 #![tactic(auto)]
 
+mod attribute;
 mod defaults;
 mod field;
 mod inner;

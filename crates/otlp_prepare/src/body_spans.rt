@@ -28,8 +28,8 @@ pub struct BodySpans {
     pub origins: Vec<SpanOrigin>,
     /// The spans, each with the index of its origin.
     pub parts: Vec<UnnotedSpan>,
-    // Stands in the place of texts that are missing.
-    other: SharedBytes,
+    // Stands in the place of texts that are missing, where no other is there. None until then: a digest takes time.
+    empty: Option<SharedBytes>,
 }
 
 /// What stands round the spans of a resource, but for their scope.
@@ -150,11 +150,32 @@ fn latest_like<'a>(origins: &'a [SpanOrigin], scope: &PartText) -> Option<&'a Sp
     origins.last()
 }
 
+/// One of these texts, whichever is there, or else one that is made once.
+fn any_text(
+    alloc: Global,
+    empty: &mut Option<SharedBytes>,
+    resource: &Option<SharedBytes>,
+    scope: &Option<SharedBytes>,
+) -> Result<SharedBytes, AllocError> {
+    if let Some(text) = resource {
+        return text.shared();
+    }
+    if let Some(text) = scope {
+        return text.shared();
+    }
+    if let Some(text) = empty {
+        return text.shared();
+    }
+    let made = SharedBytes::of(alloc, TextSlice::copy_from_slice(alloc, &[])?)?;
+    *empty = Some(made.shared()?);
+    Ok(made)
+}
+
 /// What stands round the spans of a scope of this resource. Texts that are the same as in this other one are shared
 /// with it: resources and scopes come again and again.
 fn origin_of(
     alloc: Global,
-    other: &SharedBytes,
+    empty: &mut Option<SharedBytes>,
     outer: &ResourceOrigin,
     scope: &PartText,
     schema_url: &PartText,
@@ -176,8 +197,9 @@ fn origin_of(
         schema_url,
         last.and_then(|last| last.scope_schema_url()),
     )?;
+    let other = any_text(alloc, empty, &resource, &scope)?;
     SpanOrigin::of(
-        other,
+        &other,
         resource,
         resource_schema_url,
         scope,
@@ -244,7 +266,7 @@ fn add_scope(
     read_spans_are_viewed();
     let origin = origin_of(
         alloc,
-        &found.other,
+        &mut found.empty,
         outer,
         &scope.scope,
         &scope.schema_url,
@@ -341,7 +363,7 @@ pub fn found_in(
     let mut found = BodySpans {
         origins: Vec::new(alloc),
         parts: Vec::new(alloc),
-        other: SharedBytes::of(alloc, TextSlice::copy_from_slice(alloc, &[])?)?,
+        empty: None,
     };
     let mut left = body.resources;
     left.reverse();

@@ -1,5 +1,5 @@
 -- Lists of active batches: what a batch that comes, leaves or changes makes of them.
-use Rattle.std.proofs.Common.{◌≡◌, ◌≢◌, ℕ, ◌+◌, ◌<◌, ◌≤◌, List, [], ◌∷◌, ◌++◌, length, refl, sym, ap, ◌∙◌, arith, Bool, true, false, Option, Some, None, is_some, eqb, cond, subst}
+use Rattle.std.proofs.Common.{◌≡◌, ℕ, ◌+◌, ◌<◌, ◌≤◌, List, [], ◌∷◌, ◌++◌, length, refl, sym, ap, ◌∙◌, arith, Bool, true, false, Option, Some, None, is_some, eqb, subst}
 use Rattle.std.proofs.lemmas.Bool.Decides.{nat_tests}
 use Rattle.send_queue.specs.Sender.{ActiveData, under, without, replaced}
 use Rattle.send_queue.specs.Inside.{one_if, total, has_due, waiting, AllUpTo, AllBefore, AllAfter, AreInOrder}

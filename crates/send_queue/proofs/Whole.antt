@@ -1,12 +1,12 @@
 -- What is kept still fits together when a batch is handed out or answered.
-use Rattle.std.proofs.Common.{◌≡◌, ℕ, ◌+◌, ◌<◌, ◌≤◌, List, [], ◌∷◌, ◌++◌, length, refl, sym, ap, ◌∙◌, arith, Bool, true, Option, Some, None, is_some, eqb}
+use Rattle.std.proofs.Common.{◌≡◌, ℕ, ◌+◌, ◌<◌, ◌≤◌, List, [], ◌∷◌, ◌++◌, length, sym, ap, ◌∙◌, arith, true, Option, Some, None, is_some}
 use Rattle.std.proofs.lemmas.Bool.Decides.{nat_tests}
 use Rattle.std.specs.List.Sorted.{IsPermutation}
-use Rattle.std.specs.BinaryHeap.{IsHeap, PopsGreatest, KeepsHeap}
+use Rattle.std.specs.BinaryHeap.{PopsGreatest, KeepsHeap}
 use Rattle.std.specs.declared.cmp.Reverse.{Reverse}
 use Rattle.send_queue.specs.declared.active.Retry.{Retry}
 use Rattle.send_queue.specs.Sender.{ActiveData, under, without, replaced, first_retry, most_tickets}
-use Rattle.send_queue.specs.Inside.{IsWhole, heap_cmp, is_retry, one_if, in_heap, waits_at, has_retry, has_due, in_active, waiting, AllBefore}
+use Rattle.send_queue.specs.Inside.{IsWhole, heap_cmp, is_retry, one_if, in_heap, waits_at, has_retry, has_due, AllBefore}
 use Rattle.send_queue.proofs.Batches.{under_ticket, before_up_to, AllUpTo-append, AreInOrder-append, total-append, length-append_one, AreInOrder-without, AllUpTo-without, total-without, length-without, AreInOrder-replaced, AllUpTo-replaced, total-replaced, length-replaced, waiting-lt}
 use Rattle.send_queue.proofs.First.{top_first, in_heap-IsPermutation}
 

@@ -121,6 +121,11 @@ abbrev pub oldest : List BatchData → Choice
 oldest [] = NoBatch
 oldest (b ∷ bs) = Oldest b
 
+-- a batch that is sent for the first time, where there is one
+abbrev pub first_choice : Option BatchData → Choice
+first_choice None = NoBatch
+first_choice (Some b) = Oldest b
+
 -- the batch that is sent again, where there is one
 abbrev pub retried : Option ActiveData → Choice
 retried None = NoBatch

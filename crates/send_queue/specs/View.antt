@@ -1,5 +1,5 @@
 -- Rust values as the definitions see them. This project's own rule.
-use Rattle.std.specs.Prelude.{ℕ, List, map, Option, Some, None}
+use Rattle.std.specs.Prelude.{ℕ, List, map}
 use Rattle.send_retry.specs.Delay.{state_view}
 use Rattle.send_queue.specs.declared.batch.Batch.{Batch}
 use Rattle.send_queue.specs.declared.fault.OfferFault.{OfferFault}

@@ -4,7 +4,7 @@ ghost use Rattle.std.specs.Prelude.{◌≡◌, ◌<◌, ◌≤◌, ◌^◌, ◌�
 ghost use Rattle.tail_settings.specs.SendingQueue.{sending_queue_view};
 ghost use Rattle.tail_settings.specs.RetryOnFailure.{retry_view};
 ghost use Rattle.send_retry.specs.Class.{answer_view};
-ghost use Rattle.send_queue.specs.Sender.{no_batches, is_full, offered, newest, taken_back, first_retry, has_consumer, under, job, job_of, asked, handed_of, choice, leaving, choice_by, retried, settled, answered, ready, next_retry, next_front, lesser};
+ghost use Rattle.send_queue.specs.Sender.{no_batches, is_full, offered, newest, taken_back, first_retry, has_consumer, under, job, job_of, asked, handed_of, due_by, choice, leaving, choice_by, first_choice, retried, settled, answered, ready, next_retry, next_front, lesser};
 ghost use Rattle.send_queue.specs.View.{batch_view, batch_in};
 ghost use Rattle.send_queue.specs.declared.fault.OfferFault.TheVariants.{Full};
 ghost use Rattle.send_queue.specs.declared.fault.SettleFault.TheVariants.{UnknownTicket};
@@ -134,9 +134,9 @@ impl SendQueue {
         if self.handed_out == MOST_TICKETS {
             return Ok(None);
         }
-        match self.first_retry() {
-            Some(retry) if retry.due <= moment => Ok(Some(self.send_again(retry)?)),
-            _ => self.send_first(moment),
+        match self.due_retry(moment) {
+            Some(retry) => Ok(Some(self.send_again(retry)?)),
+            None => self.send_first(moment),
         }
     }
 
@@ -148,23 +148,35 @@ impl SendQueue {
         if self.handed_out == MOST_TICKETS {
             return 0;
         }
-        match self.first_retry() {
-            Some(retry) if retry.due <= moment => 0,
-            _ => self.spans_of_first(),
-        }
-    }
-
-    /// How many spans the oldest batch of the queue has, where there is one and a consumer is free.
-    fn spans_of_first(&self) -> u64
-        ensures { result ≡ leaving (choice_by None self.now) }
-    {
-        if !self.has_consumer() {
+        if self.due_retry(moment).is_some() {
             return 0;
         }
-        match self.queue.front() {
+        match self.oldest() {
             Some(batch) => batch.spans,
             None => 0,
         }
+    }
+
+    /// The retry that comes first, where it is due by a moment, in milliseconds.
+    fn due_retry(&self, moment: u64) -> Option<Retry>
+        ensures { result ≡ due_by moment (first_retry self.now.active) }
+    {
+        match self.first_retry() {
+            Some(retry) if retry.due <= moment => Some(retry),
+            _ => None,
+        }
+    }
+
+    /// The oldest batch of the queue, where there is one and a consumer is free.
+    fn oldest(&self) -> Option<&Batch>
+        ensures choice { first_choice (option_map (λ batch. batch_view batch.now) result)
+            ≡ choice_by None self.now }
+        ensures moment { option_map (λ batch. batch.now.moment) result ≡ next_front self.now }
+    {
+        if !self.has_consumer() {
+            return None;
+        }
+        self.queue.front()
     }
 
     /// The retry that comes first.
@@ -296,10 +308,7 @@ impl SendQueue {
     fn next_front(&self) -> Option<u64>
         ensures { result ≡ next_front self.now }
     {
-        if !self.has_consumer() {
-            return None;
-        }
-        match self.queue.front() {
+        match self.oldest() {
             Some(batch) => Some(batch.moment),
             None => None,
         }

@@ -1,9 +1,12 @@
 -- What is doubtful in settings that are good: they load, and most likely won't do what was meant. This project's own
 -- rule.
-use Rattle.std.specs.Prelude.{codes, ℕ, List, [], ◌∷◌, ◌++◌, Bool, ◌||◌, length, sum_by, nat_le, Option, Some, None, Result, Ok, Err, if◌then◌else◌}
+use Rattle.std.specs.Prelude.{codes, ℕ, List, [], ◌∷◌, ◌++◌, ◌-◌, ◌*◌, ◌/◌, Bool, ◌||◌, ◌==◌, length, sum_by, nat_le, Option, Some, None, Result, Ok, Err, if◌then◌else◌}
 use Rattle.std.specs.Fmt.{decimal}
 use Rattle.std.specs.Str.{bytes_eq}
+use Rattle.tail_settings.specs.Batch.{BatchData}
 use Rattle.tail_settings.specs.Fault.{FaultData}
+use Rattle.tail_settings.specs.RetryOnFailure.{RetryData}
+use Rattle.tail_settings.specs.Section.{SectionData}
 use Rattle.tail_settings.specs.Settings.{TenantData, SettingsData}
 use Rattle.settings_check.specs.Address.{address_fault}
 
@@ -57,17 +60,53 @@ header_line field =
 abbrev pub endpoint_line : List ℕ → List ℕ → List ℕ
 endpoint_line name endpoint = address_line (codes "tenant " ++ name ++ codes ": endpoint") endpoint
 
--- the lines of tenants' back ends
-abbrev pub endpoint_lines : List TenantData → List ℕ
-endpoint_lines [] = []
-endpoint_lines (t ∷ ts) = endpoint_line t.name t.section.endpoint ++ endpoint_lines ts
+-- the line of a tenant that may hold fewer spans than a batch is cut at: its spans then wait for their time, and what
+-- comes meanwhile is left out; with a time of 0 they don't wait
+abbrev pub spans_line : List ℕ → ℕ → BatchData → List ℕ
+spans_line name max_spans batch =
+    if nat_le batch.send_batch_size max_spans || batch.timeout == 0 then []
+    else codes "warning: tenant " ++ name ++ codes ": max_spans is " ++ decimal max_spans
+    ++ codes ", and send_batch_size is " ++ decimal batch.send_batch_size
+    ++ codes ": a batch is cut by timeout_ms alone, and posts can get 429 until then\n"
+
+-- the line of a tenant whose back end is this service itself
+abbrev pub own_line : List ℕ → List ℕ → List ℕ → List ℕ
+own_line listen name endpoint =
+    if bytes_eq endpoint listen
+    then codes "warning: tenant " ++ name ++ codes ": endpoint is " ++ endpoint
+    ++ codes ", as listen is: the service would post to itself\n"
+    else []
+
+-- the shortest delay before a batch is sent again
+abbrev pub least_delay : RetryData → ℕ
+least_delay retry = retry.initial_interval - retry.initial_interval * retry.randomization_factor / 1000
+
+-- the line of a tenant whose batches are given up before the shortest delay is over; a longest time of 0 is none, and 1
+-- is how retries are turned off
+abbrev pub retry_line : List ℕ → RetryData → List ℕ
+retry_line name retry =
+    if nat_le retry.max_elapsed_time 1 || nat_le (least_delay retry) retry.max_elapsed_time then []
+    else codes "warning: tenant " ++ name ++ codes ": max_elapsed_time_ms is " ++ decimal retry.max_elapsed_time
+    ++ codes ", and the delay before a retry is at least " ++ decimal (least_delay retry)
+    ++ codes " ms: no batch is sent again\n"
+
+-- the lines of a tenant of this name
+unfoldable pub tenant_lines : List ℕ → List ℕ → SectionData → List ℕ
+tenant_lines listen name section =
+    endpoint_line name section.endpoint ++ own_line listen name section.endpoint
+    ++ spans_line name section.max_spans section.batch ++ retry_line name section.retry_on_failure
+
+-- the lines of tenants
+abbrev pub lines_of_tenants : List ℕ → List TenantData → List ℕ
+lines_of_tenants listen [] = []
+lines_of_tenants listen (t ∷ ts) = tenant_lines listen t.name t.section ++ lines_of_tenants listen ts
 
 -- the lines of all settings
 abbrev pub doubts_of : SettingsData → List ℕ
 doubts_of s =
     address_line (codes "table global: listen") s.global.listen ++ receivers_line s.global.receivers (length s.tenants)
     ++ senders_line s.global.senders (consumers_of s.tenants) ++ header_line s.global.tenant_header
-    ++ endpoint_lines s.tenants
+    ++ lines_of_tenants s.global.listen s.tenants
 
 -- what is doubtful in the settings that a document means; nothing where it has a fault
 abbrev pub doubts_in : Result SettingsData FaultData → List ℕ

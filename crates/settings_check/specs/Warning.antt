@@ -29,6 +29,19 @@ abbrev pub meant_of : List ℕ → List Key → Option Key
 meant_of text [] = None
 meant_of text (key ∷ keys) = if is_with_unit (without_unit (name_of key)) text then Some key else meant_of text keys
 
+-- what a word of the Collector's, or a plural, is called here (docs/SETTINGS.md, "Coming from the Collector"); any other
+-- text is left as it is
+abbrev pub name_here : List ℕ → List ℕ
+name_here text =
+    if bytes_eq text (codes "policies") then codes "policy"
+    else if bytes_eq text (codes "tenants") then codes "tenant"
+    else if bytes_eq text (codes "pipelines") then codes "tenant"
+    else if bytes_eq text (codes "traces_endpoint") then codes "endpoint"
+    else if bytes_eq text (codes "endpoint") then codes "listen"
+    else if bytes_eq text (codes "num_consumers") then codes "senders"
+    else if bytes_eq text (codes "memory_limiter") then codes "max_spans"
+    else text
+
 -- a key that may have been meant
 abbrev pub hint_text : Option Key → List ℕ
 hint_text None = []
@@ -38,7 +51,7 @@ hint_text (Some key) = codes "; perhaps " ++ name_of key ++ codes " was meant"
 abbrev pub warning_text : UnknownKey → List ℕ
 warning_text unknown =
     codes "# warning: " ++ unknown.place ++ codes ": no setting has the key " ++ shown unknown.key
-    ++ codes ", so it is ignored" ++ hint_text (meant_of unknown.key (keys_of_kind unknown.kind)) ++ codes "\n"
+    ++ codes ", so it is ignored" ++ hint_text (meant_of (name_here unknown.key) (keys_of_kind unknown.kind)) ++ codes "\n"
 
 -- a line for each
 abbrev pub warnings : List UnknownKey → List ℕ

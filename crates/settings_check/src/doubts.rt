@@ -1,13 +1,17 @@
 //! What is doubtful in settings that are good.
 
 ghost use Rattle.std.specs.Prelude.{◌≡◌, ◌++◌, IfOk, OnOk, string_bytes};
+ghost use Rattle.std.specs.Str.{bytes_eq};
+ghost use Rattle.tail_settings.specs.Batch.{batch_view};
+ghost use Rattle.tail_settings.specs.RetryOnFailure.{retry_view};
+ghost use Rattle.tail_settings.specs.Section.{section_view};
 ghost use Rattle.tail_settings.specs.Settings.{settings_view};
-ghost use Rattle.settings_check.specs.Doubts.{address_line, endpoint_line, endpoint_lines, receivers_line, consumers_of, senders_line, has_purpose, header_line, doubts_of};
+ghost use Rattle.settings_check.specs.Doubts.{address_line, endpoint_line, receivers_line, consumers_of, senders_line, has_purpose, header_line, own_line, spans_line, least_delay, retry_line, tenant_lines, lines_of_tenants, doubts_of};
 
 use crate::address::address_fault;
 use crate::unknown::joined;
 use std::alloc::{AllocError, Global};
-use tail_settings::Settings;
+use tail_settings::{Batch, RetryOnFailure, Section, Settings};
 
 /// The line of a text that can't be an address, behind the words of whose address it is to be; nothing of any other.
 fn address_line(alloc: Global, place: &str, address: &str) -> Result<String, AllocError>
@@ -99,18 +103,95 @@ fn endpoint_line(alloc: Global, name: &str, endpoint: &str) -> Result<String, Al
     address_line(alloc, place.as_str(), endpoint)
 }
 
-/// Appends the lines of the tenants' back ends.
-fn put_endpoint_lines(
-    alloc: Global,
-    out: &mut String,
-    settings: &Settings,
-) -> Result<(), AllocError>
-    ensures { OnOk result (string_bytes out.new
-        ≡ string_bytes out.old ++ endpoint_lines (settings_view settings.now).tenants) }
+/// The line of a tenant that may hold fewer spans than a batch is cut at.
+fn spans_line(alloc: Global, name: &str, max_spans: u32, batch: Batch) -> Result<String, AllocError>
+    ensures { IfOk result (λ line. string_bytes line
+        ≡ spans_line name.now max_spans (batch_view batch)) }
 {
+    let size = batch.send_batch_size;
+    if size <= max_spans || batch.timeout == 0 {
+        return Ok(String::new(alloc));
+    }
+    let line = format!(in alloc;
+        "warning: tenant {name}: max_spans is {max_spans}, and send_batch_size is {size}: a batch is cut by timeout_ms \
+         alone, and posts can get 429 until then\n"
+    )?;
+    Ok(line)
+}
+
+/// Whether two texts are the same.
+fn is_same(left: &str, right: &str) -> bool
+    ensures { result ≡ bytes_eq left.now right.now }
+{
+    left == right
+}
+
+/// The line of a tenant whose back end is this service itself.
+fn own_line(alloc: Global, listen: &str, name: &str, endpoint: &str) -> Result<String, AllocError>
+    ensures { IfOk result (λ line. string_bytes line ≡ own_line listen.now name.now endpoint.now) }
+{
+    if !is_same(endpoint, listen) {
+        return Ok(String::new(alloc));
+    }
+    let line = format!(in alloc;
+        "warning: tenant {name}: endpoint is {endpoint}, as listen is: the service would post to itself\n"
+    )?;
+    Ok(line)
+}
+
+/// The shortest delay before a batch is sent again, in milliseconds.
+fn least_delay(retry: RetryOnFailure) -> u64
+    ensures { result ≡ least_delay (retry_view retry) }
+{
+    retry.initial_interval - retry.initial_interval * u64::from(retry.randomization_factor) / 1000
+}
+
+/// The line of a tenant whose batches are given up before the shortest delay is over.
+fn retry_line(alloc: Global, name: &str, retry: RetryOnFailure) -> Result<String, AllocError>
+    ensures { IfOk result (λ line. string_bytes line ≡ retry_line name.now (retry_view retry)) }
+{
+    let longest = retry.max_elapsed_time;
+    let least = least_delay(retry);
+    if longest <= 1 || least <= longest {
+        return Ok(String::new(alloc));
+    }
+    let line = format!(in alloc;
+        "warning: tenant {name}: max_elapsed_time_ms is {longest}, and the delay before a retry is at least {least} \
+         ms: no batch is sent again\n"
+    )?;
+    Ok(line)
+}
+
+/// The lines of a tenant.
+fn tenant_lines(
+    alloc: Global,
+    listen: &str,
+    name: &str,
+    section: &Section,
+) -> Result<String, AllocError>
+    ensures { IfOk result (λ lines. string_bytes lines
+        ≡ tenant_lines listen.now name.now (section_view section.now)) }
+{
+    let endpoint = endpoint_line(alloc, name, section.endpoint.as_str())?;
+    let own = own_line(alloc, listen, name, section.endpoint.as_str())?;
+    let spans = spans_line(alloc, name, section.max_spans, section.batch)?;
+    let retry = retry_line(alloc, name, section.retry_on_failure)?;
+    let addresses = joined(alloc, endpoint.as_str(), own.as_str())?;
+    let head = joined(alloc, addresses.as_str(), spans.as_str())?;
+    let lines = joined(alloc, head.as_str(), retry.as_str())?;
+    Ok(lines)
+}
+
+/// Appends the lines of the tenants.
+fn put_tenant_lines(alloc: Global, out: &mut String, settings: &Settings) -> Result<(), AllocError>
+    ensures { OnOk result (string_bytes out.new ≡ string_bytes out.old
+        ++ lines_of_tenants (settings_view settings.now).global.listen
+        (settings_view settings.now).tenants) }
+{
+    let listen = settings.global.listen.as_str();
     'tenants: for (name, tenant) in settings.tenants.iter() {
-        let line = endpoint_line(alloc, name.as_str(), tenant.section.endpoint.as_str())?;
-        out.push_str(line.as_str())?;
+        let lines = tenant_lines(alloc, listen, name.as_str(), &tenant.section)?;
+        out.push_str(lines.as_str())?;
     }
     Ok(())
 }
@@ -127,6 +208,6 @@ pub fn doubts(alloc: Global, settings: &Settings) -> Result<String, AllocError>
     let head = joined(alloc, listen.as_str(), receivers.as_str())?;
     let counts = joined(alloc, head.as_str(), senders.as_str())?;
     let mut lines = joined(alloc, counts.as_str(), header.as_str())?;
-    put_endpoint_lines(alloc, &mut lines, settings)?;
+    put_tenant_lines(alloc, &mut lines, settings)?;
     Ok(lines)
 }

@@ -1,7 +1,7 @@
 //! Which key may have been meant by one that no setting has.
 
 ghost use Rattle.std.specs.Prelude.{◌≡◌};
-ghost use Rattle.settings_check.specs.Warning.{is_unit, without_unit, is_with_unit, meant_of};
+ghost use Rattle.settings_check.specs.Warning.{is_unit, without_unit, is_with_unit, name_here, meant_of};
 
 use crate::table::Key;
 
@@ -36,6 +36,21 @@ fn is_with_unit(base: &[u8], key: &[u8]) -> bool
     }
     let (front, unit) = key.split_at(base.len());
     front == base && is_unit(unit)
+}
+
+/// What a word of the Collector's, or a plural, is called here. Any other text is left as it is.
+pub fn name_here(text: &str) -> &str
+    ensures { result.now ≡ name_here text.now }
+{
+    match text {
+        "policies" => "policy",
+        "tenants" | "pipelines" => "tenant",
+        "traces_endpoint" => "endpoint",
+        "endpoint" => "listen",
+        "num_consumers" => "senders",
+        "memory_limiter" => "max_spans",
+        _ => text,
+    }
 }
 
 /// The first key of these that is the same as another but for its unit.

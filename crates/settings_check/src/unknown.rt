@@ -5,10 +5,10 @@ ghost use Rattle.std.specs.Fmt.{decimal};
 ghost use Rattle.toml.specs.View.{table_view, items_view};
 ghost use Rattle.tail_settings.specs.Keys.{keys_of};
 ghost use Rattle.settings_check.specs.Unknown.{text_in, tenant_words, kind_of, sub_policies_of, unknown_in, unknown_in_leaves, unknown_in_policy, unknown_in_policies, unknown_in_cache, unknown_in_sampling, unknown_in_section, unknown_in_tenants, unknown_of};
-ghost use Rattle.settings_check.specs.Warning.{meant_of, hint_text, warning_text, warnings};
+ghost use Rattle.settings_check.specs.Warning.{name_here, meant_of, hint_text, warning_text, warnings};
 ghost use Rattle.settings_check.specs.Table.{keys_of_kind};
 
-use crate::hint::meant;
+use crate::hint::{meant, name_here};
 use crate::read;
 use crate::shown::shown;
 use crate::table::{TableKind, find_among};
@@ -44,9 +44,9 @@ fn numbered(alloc: Global, place: &str, word: &str, number: usize) -> Result<Str
 /// The key that may have been meant by one that no setting has.
 fn hint(alloc: Global, kind: TableKind, key: &str) -> Result<String, AllocError>
     ensures { IfOk result (λ text. string_bytes text ≡ hint_text
-        (meant_of key.now (keys_of_kind kind))) }
+        (meant_of (name_here key.now) (keys_of_kind kind))) }
 {
-    match meant(kind.keys(), key) {
+    match meant(kind.keys(), name_here(key)) {
         Some(meant) => {
             let name = meant.name();
             format!(in alloc; "; perhaps {name} was meant")

@@ -66,10 +66,14 @@ type = \"always_sample\"
 ";
 
 /// A document that has each doubt: a listener without a port, fewer receivers than tenants, fewer senders than the
-/// eleven consumers, a field that no request has for a tenant's name, and back ends with a scheme and without a host.
+/// twelve consumers, a field that no request has for a name, back ends with a scheme, without a host and at the
+/// listener, fewer spans than a batch is cut at, and retries that all come too late.
 const DOUBTFUL: &str = "tenant = [
     { name = \"a\", endpoint = \"http://10.0.0.1:4318\", tail_sampling.policy = [{ type = \"always_sample\" }] },
-    { name = \"b\", endpoint = \":4318\", sending_queue.num_consumers = 1,
+    { name = \"b\", endpoint = \":4318\", sending_queue.num_consumers = 1, max_spans = 8191,
+      tail_sampling.policy = [{ type = \"always_sample\" }] },
+    { name = \"c\", endpoint = \"127.0.0.1\", sending_queue.num_consumers = 1, max_spans = 2, batch.send_batch_size = 3,
+      retry_on_failure = { initial_interval_ms = 60000, max_elapsed_time_ms = 10 },
       tail_sampling.policy = [{ type = \"always_sample\" }] },
 ]
 global = { listen = \"127.0.0.1\", receivers = 1, senders = 10, tenant_header = \"host\" }
@@ -78,13 +82,20 @@ global = { listen = \"127.0.0.1\", receivers = 1, senders = 10, tenant_header = 
 /// What is told of them.
 const DOUBTS: &str =
     "warning: table global: listen 127.0.0.1 doesn't end with a colon and a port from 0 to 65535
-warning: table global: receivers is 1, and there are 2 tenants: each client that keeps its connection keeps a receiver
-warning: table global: senders is 10, and the tenants' num_consumers are 11 together: back ends that don't answer can \
+warning: table global: receivers is 1, and there are 3 tenants: each client that keeps its connection keeps a receiver
+warning: table global: senders is 10, and the tenants' num_consumers are 12 together: back ends that don't answer can \
      keep every sender
 warning: table global: tenant_header is host, which a request has for another purpose: hardly any can name a \
      tenant by it
 warning: tenant a: endpoint http://10.0.0.1:4318 has a scheme, where a host, a colon and a port are wanted
 warning: tenant b: endpoint :4318 has no host before its port
+warning: tenant b: max_spans is 8191, and send_batch_size is 8192: a batch is cut by timeout_ms alone, and posts can \
+     get 429 until then
+warning: tenant c: endpoint 127.0.0.1 doesn't end with a colon and a port from 0 to 65535
+warning: tenant c: endpoint is 127.0.0.1, as listen is: the service would post to itself
+warning: tenant c: max_spans is 2, and send_batch_size is 3: a batch is cut by timeout_ms alone, and posts can \
+     get 429 until then
+warning: tenant c: max_elapsed_time_ms is 10, and the delay before a retry is at least 30000 ms: no batch is sent again
 ";
 
 #[test]

@@ -2,6 +2,7 @@ pub mod Taking
 pub mod Keys
 pub mod Origins
 pub mod Posting
+pub mod Full
 pub mod Sweeping
 pub mod Spans
 pub mod Grouping

@@ -74,7 +74,7 @@ impl Pipeline {
     }
 
     /// Whether there is room for one more span.
-    fn has_room(&self) -> bool
+    pub(crate) fn has_room(&self) -> bool
         requires ledger_invariant { LedgerInvariant self.now.ledger }
         ensures { result ≡ nat_lt (self.now.ledger.places.undecided +
             self.now.ledger.places.pending) self.now.section.max_spans }

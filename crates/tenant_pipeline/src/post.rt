@@ -159,6 +159,10 @@ impl Pipeline {
         {
             return refusal(self.alloc, 503, "counter limit");
         }
+        // No span comes then, so that no text is held for any.
+        if !self.has_room() {
+            return self.reply(spans.len() as u64, 0, invalid);
+        }
         let keys = hold_origins(self.alloc, stores, self.tenant, origins)?;
         let reply = self.take_spans(stores, moment, keys.as_slice(), spans, invalid);
         release_origins(stores, self.tenant, keys);

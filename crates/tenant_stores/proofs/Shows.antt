@@ -2,7 +2,6 @@
 use Rattle.std.proofs.Common.{◌≡◌, ◌≢◌, ℕ, suc, ◌+◌, ◌-◌, ◌<◌, ◌≤◌, List, [], ◌∷◌, ◌++◌, refl, sym, ap, ◌∙◌, arith, Bool, true, false, Option, Some, None, add-one}
 use Rattle.span_pool.specs.Stored.{StoredData, SpanTexts, texts_of}
 use Rattle.span_pool.specs.Pool.{with_span}
-use Rattle.text_pool.specs.Part as texts
 use Rattle.text_pool.specs.declared.pool.CountedText.{CountedText}
 use Rattle.trace_rows.specs.declared.table.Row.{Row}
 use Rattle.trace_rows.specs.Part.{with_at, joined, settled, keys_of}

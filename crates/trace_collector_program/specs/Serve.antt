@@ -12,6 +12,7 @@ nanos_of millis = option_map (λ n. n * 1000000) millis
 -- the service is run as the options say, with these keys
 pub record IsAsked (given : OptionsData) (keys : HashKeys) (asked : ServiceOptions) : Type 0 where
   pub audit : asked.audit ≡ given.audit
+  pub verbose : asked.verbose ≡ given.verbose
   pub keyed : asked.keys ≡ keys
   pub connections : asked.connections ≡ given.connections
   pub senders : asked.senders ≡ given.senders

@@ -172,7 +172,7 @@ fn serve_input<R, W, L>(
     reason: &mut Reason,
 ) -> Result<u64, ServiceFault>
 where
-    R: Input + AllocGlobal + Clock + Threads + Wait + Sync + Documents,
+    R: Input + Eprint + AllocGlobal + Clock + Threads + Wait + Sync + Documents,
     R: Net<Listener = TcpListener, Stream = TcpStream>,
     W: Write + Drop,
     L: Observer + Drop,
@@ -208,7 +208,7 @@ fn serve_at_desk<R, W, L>(
     reason: &mut Reason,
 ) -> Result<u64, ServiceFault>
 where
-    R: AllocGlobal + Clock + Threads + Wait + Sync,
+    R: Eprint + AllocGlobal + Clock + Threads + Wait + Sync,
     R: Net<Listener = TcpListener, Stream = TcpStream>,
     W: Write + Drop,
     L: Observer + Drop,
@@ -242,7 +242,7 @@ fn serve_lines<'x, R, D, I, O, L>(
     console: &mut Console<I, O, L>,
 ) -> Result<u64, ServiceFault>
 where
-    R: AllocGlobal + Clock + Threads + Wait + Sync,
+    R: Eprint + AllocGlobal + Clock + Threads + Wait + Sync,
     R: Net<Listener = TcpListener, Stream = TcpStream>,
     D: Documents,
     I: BufRead,
@@ -297,6 +297,7 @@ fn service_options(options: &ServeOptions<'_>, keys: HashKeys) -> ServiceOptions
 {
     ServiceOptions {
         audit: options.audit,
+        verbose: options.verbose,
         keys,
         connections: options.connections,
         senders: options.senders,

@@ -34,7 +34,8 @@ Behind `serve SETTINGS`, in any order and each once at most:
   --audit                prints at the end `audit SHARD ENTRIES` for each shard's log, which is kept
                          in memory then
   --verbose              tells standard error where it listens, which lines of the input ask for
-                         nothing, what its end waits for, and why it failed
+                         nothing, which back ends refuse posts or don't answer, what its end waits
+                         for, and why it failed
   --connections N        serves N connections at a time, 1 to 65536; else as many as the settings
                          have receivers
   --senders N            sends N batches at a time, 1 to 4096; else as many as the settings have
@@ -52,8 +53,8 @@ Behind `serve SETTINGS`, in any order and each once at most:
   --admin-token-file FILE
                          asks for the token in that file, one line of 16 bytes or more, which are
                          letters, digits, - . _ ~ + / and at its end =, as
-                         `Authorization: Bearer TOKEN`, but at / and /healthz; without it HOST has
-                         to be this machine's own loopback
+                         `Authorization: Bearer TOKEN`, but at /, /healthz and /readyz; without it HOST
+                         has to be this machine's own loopback
 
 The lines of a script:
   post NAME MOMENT HEX   a request body in protobuf arrives for that tenant, at a moment in milliseconds;

@@ -1,5 +1,5 @@
 -- What is shown, and what was asked for it.
-use Rattle.std.proofs.Common.{◌≡◌, ℕ, ◌+◌, ◌%◌, ◌<◌, List, [], ◌∷◌, ◌++◌, length, map, take, get_or, Bool, true, false, ◌&&◌, Result, Ok, Err, IfOk, OnOk, OnErr, Option, Some, None, IfSome, option_map, Vec, Global, refl, sym, ap, subst, ◌∙◌, append_assoc, string_bytes}
+use Rattle.std.proofs.Common.{◌≡◌, ℕ, ◌+◌, ◌%◌, ◌<◌, List, [], ◌∷◌, ◌++◌, length, map, take, get_or, Bool, true, false, ◌&&◌, Result, Ok, Err, IfOk, OnOk, OnErr, Option, Some, None, IfSome, option_map, Vec, Global, refl, sym, ap, subst, ◌∙◌, string_bytes}
 use Rattle.std.proofs.lemmas.List.{map_more}
 use Rattle.admin_pages.specs.Figures.{TenantData, tenant_of}
 use Rattle.admin_pages.specs.declared.figures.TenantFigures.{TenantFigures}
@@ -159,10 +159,10 @@ module _ {E : Type 0} (first : SettingsData) (shards : ℕ) (admin : AdminData) 
       (subst (λ x. Shows first shards admin x request.body old new told) same is)) shows
 
   pub refused_so : (route : RouteData) → route ≡ route_in request → is_let_in admin.token request.headers route ≡ false
-      → new ≡ old → IfOk r (λ reply. response_of reply ≡ refused_reply)
+      → new ≡ old → IfOk r (λ reply. response_of reply ≡ refused_reply admin.token)
       → IfOk r (λ reply. IsShown first shards admin request old new (response_of reply))
   refused_so route same may unchanged says =
-      if_ok r (λ told. told ≡ refused_reply) (λ told. IsShown first shards admin request old new told)
+      if_ok r (λ told. told ≡ refused_reply admin.token) (λ told. IsShown first shards admin request old new told)
       (λ told is. not_let_in (subst (λ x. is_let_in admin.token request.headers x ≡ false) same may) is unchanged) says
 
 -- what was done where memory was refused

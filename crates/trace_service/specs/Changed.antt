@@ -2,7 +2,7 @@
 use Rattle.std.specs.Prelude.{◌≡◌, ◌≢◌, ℕ, ◌<◌, ◌≤◌, Bool, true, false, List, [], ◌++◌, length, get_or, Option, Some, None, if◌then◌else◌, codes, bytes_eq, IsUtf8}
 use Rattle.std.specs.Str.{trim_end}
 use Rattle.admin_pages.specs.Figures.{no_usage}
-use Rattle.admin_pages.specs.Json.{tenant_text}
+use Rattle.admin_pages.specs.Json.{gone_text}
 use Rattle.drop_ledger.specs.Ledger.{LedgerData, LedgerInvariant}
 use Rattle.drop_ledger.specs.Report.{report_text as counters_text}
 use Rattle.http_edge.specs.Message.{Response}
@@ -12,7 +12,7 @@ use Rattle.settings_check.specs.Report.{IsFileReport}
 use Rattle.trace_service.specs.Notice.{came_reply, notice_of, reply_of, unknown_reply}
 use Rattle.trace_service.specs.Post.{no_memory}
 use Rattle.trace_service.specs.declared.desk.Asked.{Asked}
-use Rattle.trace_service.specs.declared.desk.Asked.TheVariants.{Told, Late, Busy, Ended}
+use Rattle.trace_service.specs.declared.desk.Asked.TheVariants.{Told, Late, Ended}
 
 -- what is told where nothing was answered in time: it goes on (202, RFC 9110, section 15.3.3), or it isn't begun since
 -- the input has ended or another tenant is coming or going (503, section 15.6.4)
@@ -99,7 +99,7 @@ last_line name ledger = report_text name (counters_text ledger)
 -- a tenant of this name went with this ledger: nothing of it is there any more, and nothing of it waits
 abbrev pub went_reply : List ℕ → LedgerData → Response
 went_reply name ledger =
-    reply_of 200 Json (tenant_text (record { name = name; ledger = ledger; usage = no_usage; ready = None }))
+    reply_of 200 Json (gone_text (record { name = name; ledger = ledger; usage = no_usage; ready = None }))
 
 -- the tenant stays (409, RFC 9110, section 15.5.10)
 abbrev pub stays_reply : Response

@@ -211,9 +211,11 @@ page_reply = reply_of 200 media.Html PAGE.now
 abbrev pub drained_reply : Response
 drained_reply = notice_of 200 (codes "state") (codes "draining")
 
--- who isn't let in (401, RFC 9110, section 15.5.2)
-abbrev pub refused_reply : Response
-refused_reply = notice_of 401 (codes "error") (codes "the token is missing or another")
+-- who isn't let in, by the token that is wanted: who doesn't give it (401, RFC 9110, section 15.5.2), or where none is
+-- wanted a page that asks for a change (403, section 15.5.4), since there is no token that it could give
+abbrev pub refused_reply : Option (List ℕ) → Response
+refused_reply (Some wanted) = notice_of 401 (codes "error") (codes "the token is missing or another")
+refused_reply None = notice_of 403 (codes "error") (codes "a change from a page needs a token, and none is configured")
 
 -- What whoever is let in is told, by what is asked for with this body, and which steps were made meanwhile.
 abbrev pub Shows : SettingsData → ℕ → AdminData → RouteData → List ℕ → CallerState → CallerState → Response → Type 0
@@ -264,7 +266,7 @@ pub data IsShown (first : SettingsData) (shards : ℕ) (admin : AdminData) (requ
       → Shows first shards admin (route_in request) request.body old new told
       → IsShown first shards admin request old new told
   not_let_in : is_let_in admin.token request.headers (route_in request) ≡ false
-      → told ≡ refused_reply → new ≡ old
+      → told ≡ refused_reply admin.token → new ≡ old
       → IsShown first shards admin request old new told
   without_memory : OnlyLooksIf (may_look admin request) shards old new → told ≡ no_memory
       → IsShown first shards admin request old new told

@@ -135,7 +135,7 @@ impl<'c, 'h, J: Naming, R: Wait + Clock> AdminHandler<'c, 'h, J, R> {
         if self.is_let_in(headers.as_slice(), &asked) {
             self.show(asked, body)
         } else {
-            not_let_in(self.context.alloc())
+            not_let_in(self.context.alloc(), self.port.token)
         }
     }
 
@@ -535,11 +535,20 @@ fn page(alloc: Global) -> Result<Reply, AllocError>
     Ok(shown(200, MediaType::Html, page))
 }
 
-/// The reply to who isn't let in.
-fn not_let_in(alloc: Global) -> Result<Reply, AllocError>
-    ensures { IfOk result (λ reply. response_of reply ≡ refused_reply) }
+/// The reply to who isn't let in, where this token is wanted, or to a page where none is.
+fn not_let_in(alloc: Global, wanted: Option<&[u8]>) -> Result<Reply, AllocError>
+    ensures { IfOk result (λ reply. response_of reply ≡ refused_reply
+        (option_copied wanted.entry)) }
 {
-    notice(alloc, 401, "error", "the token is missing or another")
+    match wanted {
+        Some(_) => notice(alloc, 401, "error", "the token is missing or another"),
+        None => notice(
+            alloc,
+            403,
+            "error",
+            "a change from a page needs a token, and none is configured",
+        ),
+    }
 }
 
 /// Whether it is shown to whoever reaches the address: it tells nothing of any tenant.

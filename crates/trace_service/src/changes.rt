@@ -8,7 +8,7 @@ ghost use Rattle.trace_service.specs.Changed.{HasWarnings, SaysCame, TellsAdded,
 use crate::desk::Asked;
 use crate::notice::{came, notice, shown, unknown};
 use crate::post::without_memory;
-use admin_pages::{TenantFigures, TenantUsage, put_tenant, read_report};
+use admin_pages::{TenantFigures, TenantUsage, put_gone, read_report};
 use http_edge::{MediaType, Reply};
 use settings_check::{Report, check};
 use std::alloc::{AllocError, Global};
@@ -154,7 +154,7 @@ fn went(alloc: Global, name: &str, counters: [u64; 14]) -> Result<Reply, AllocEr
         ready: None,
     };
     let mut text = Vec::new(alloc);
-    put_tenant(alloc, &mut text, &figures)?;
+    put_gone(alloc, &mut text, &figures)?;
     Ok(shown(200, MediaType::Json, text))
 }
 

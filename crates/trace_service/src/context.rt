@@ -291,7 +291,9 @@ impl<'h, J: Naming, R: Wait + Clock> JobSource for WorkerContext<'h, J, R> {
 impl<'h, J: Naming, R: Wait + Clock> WorkerContext<'h, J, R> {
     ghost use Rattle.std.specs.Prelude.{◌≡◌};
 
-    /// Asks until when its shard has nothing to do by the time alone, behind a turn that found nothing.
+    /// Asks until when its shard has nothing to do by the time alone, behind a turn that found nothing. A shard is
+    /// asked about a tenant, and tells beside that when it is due itself: the tenant whose number is the shard's own is
+    /// in it, since there are more shards than that, and needn't be present. What is told of it isn't looked at.
     fn note_due(&mut self)
         ensures shard { self.new.shard ≡ self.old.shard }
         ensures caller { self.new.caller ≡ self.old.caller }
@@ -302,6 +304,7 @@ impl<'h, J: Naming, R: Wait + Clock> WorkerContext<'h, J, R> {
                 let told = self.hub.look(self.rt, &mut self.caller, tenant);
                 told.answer.shard_ready
             }
+            // No tenant has the number of so late a shard: it is looked at again at once, as if it were always due.
             Err(_) => Some(0),
         };
         self.teller.note_due(self.shard, due);

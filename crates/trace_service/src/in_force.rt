@@ -1,6 +1,6 @@
 //! The settings in force, which all threads share under a lock.
 
-ghost use Rattle.std.specs.Prelude.{◌≡◌, Ok, IfOk, OnOk, IfErr, IsSome, map, option_map, string_bytes};
+ghost use Rattle.std.specs.Prelude.{◌≡◌, Ok, IfOk, OnOk, IfErr, IfSome, IsSome, map, option_map, string_bytes};
 ghost use Rattle.http_edge.specs.Seen.{seen};
 ghost use Rattle.otlp_front.specs.Route.{names_in, route_of};
 ghost use Rattle.tail_settings.specs.Change.{admitted, struck};
@@ -83,6 +83,15 @@ impl<J: Naming> InForce<J> {
         ensures { result ≡ number_of (settings_view self.now.settings) name.now }
     {
         self.settings.number(name)
+    }
+
+    /// The name of the tenant of this number. None where there is no such tenant, or memory is refused.
+    pub fn name(&self, alloc: Global, tenant: u32) -> Option<String>
+        ensures { IfSome result (λ name. option_map (λ t. t.name)
+            (tenant_at (settings_view self.now.settings) tenant) ≡ Some (string_bytes name)) }
+    {
+        let name = self.settings.name(tenant)?;
+        String::from_str(alloc, name).ok()
     }
 
     /// A copy of the section of the tenant of this number, which shares the policies.

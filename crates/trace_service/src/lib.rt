@@ -14,6 +14,11 @@
 
 ghost use Rattle.trace_service.specs.Jobs.{PoppedWereGiven};
 ghost use Rattle.trace_service.specs.Post.{StatusesAgree};
+ghost use Rattle.std.specs.Prelude.{◌≡◌, ℕ, List, Some, true};
+ghost use Rattle.export_edge.specs.Dialing.{as_address};
+ghost use Rattle.http_edge.specs.Limits.{max_body};
+ghost use Rattle.replay_script.specs.Word.{most_body_bytes, is_name as is_name_in_scripts};
+ghost use Rattle.tail_settings.specs.Texts.{is_address, is_name};
 
 mod admin_handler;
 mod admin_port;
@@ -52,6 +57,7 @@ mod shared;
 mod start;
 mod tally;
 mod teller;
+mod told;
 mod visit;
 mod workers;
 
@@ -77,4 +83,13 @@ pub fn popped_jobs_were_given()
 /// law over two definitions.
 pub fn statuses_agree()
     ensures { StatusesAgree }
+{}
+
+/// Limits that stand in two crates are the same: a body that a script posts may be as long as one over HTTP, the
+/// address of a tenant's settings can be dialed, and a script can name each tenant that settings may have, and no
+/// other.
+pub fn limits_agree()
+    ensures bodies { max_body ≡ most_body_bytes }
+    ensures addresses { (text : List ℕ) → is_address text ≡ true → as_address text ≡ Some text }
+    ensures names { (text : List ℕ) → is_name text ≡ is_name_in_scripts text }
 {}

@@ -8,6 +8,8 @@ use std::time::Duration;
 pub struct ServiceOptions {
     /// Whether the shards' logs are kept, and their lengths written at the end.
     pub audit: bool,
+    /// Whether standard error is told of answers of back ends that aren't those of success.
+    pub verbose: bool,
     /// Under these trace ids are hashed. No client knows them.
     pub keys: HashKeys,
     /// So many connections are served at a time, each by a thread of its own; without it as many as the settings have

@@ -105,7 +105,7 @@ pub fn run_service<R, D, I, O, L>(
     console: &mut Console<I, O, L>,
 ) -> Result<u64, ServiceFault>
 where
-    R: Net<Listener = TcpListener, Stream = TcpStream> + Threads + Wait + Clock + Sync,
+    R: Net<Listener = TcpListener, Stream = TcpStream> + Threads + Wait + Clock + Eprint + Sync,
     D: Documents,
     I: BufRead,
     O: Write,
@@ -164,7 +164,7 @@ fn run_named<J, R, D, I, O, L>(
 ) -> Result<u64, ServiceFault>
 where
     J: Naming + Send + Sync,
-    R: Net<Listener = TcpListener, Stream = TcpStream> + Threads + Wait + Clock + Sync,
+    R: Net<Listener = TcpListener, Stream = TcpStream> + Threads + Wait + Clock + Eprint + Sync,
     D: Documents,
     I: BufRead,
     O: Write,
@@ -259,7 +259,7 @@ fn at_work<'h, J, R, D, I, O, L>(
 ) -> Result<(Vec<Caller>, Vec<LaneSeat>, Result<u64, ServiceFault>), ServiceFault>
 where
     J: Naming + Send + Sync,
-    R: Net<Listener = TcpListener, Stream = TcpStream> + Threads + Wait + Clock + Sync,
+    R: Net<Listener = TcpListener, Stream = TcpStream> + Threads + Wait + Clock + Eprint + Sync,
     D: Documents,
     I: BufRead,
     O: Write,
@@ -317,7 +317,7 @@ fn all_work<'h, J, R, D, I, O, L>(
 ) -> Result<u64, ServiceFault>
 where
     J: Naming + Send + Sync,
-    R: Net<Listener = TcpListener, Stream = TcpStream> + Threads + Wait + Clock + Sync,
+    R: Net<Listener = TcpListener, Stream = TcpStream> + Threads + Wait + Clock + Eprint + Sync,
     D: Documents,
     I: BufRead,
     O: Write,

@@ -127,6 +127,8 @@ pub(crate) struct Shared<'h, J: Naming, R> {
     pub beat: ServiceBeat<'h, R>,
     /// How many threads there are.
     pub threads: usize,
+    /// Whether standard error is told of answers of back ends that aren't those of success.
+    pub is_verbose: bool,
 }
 
 impl<'h, J: Naming, R: Wait + Clock> Shared<'h, J, R> {
@@ -155,6 +157,7 @@ impl<'h, J: Naming, R: Wait + Clock> Shared<'h, J, R> {
             admin: admin_entrance_of(start.admin),
             beat: ServiceBeat::new(start.rt, &workplace.signals, since),
             threads,
+            is_verbose: start.options.verbose,
         })
     }
 

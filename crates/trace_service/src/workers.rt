@@ -18,6 +18,7 @@ use crate::patient::PatientBackEnd;
 use crate::receiving::{Reception, receive_all};
 use crate::reserve::Reserve;
 use crate::shared::Shared;
+use crate::told::ToldBackEnd;
 use crate::visit::{Client, Visit};
 use export_edge::{Beat, TcpBackEnd, run_sender, run_turner};
 use http_edge::{EdgeFault, Handler, serve};
@@ -97,7 +98,7 @@ impl<'h, J: Naming, R: Wait + Clock> Worker<'h, J, R> {
 pub(crate) fn work_all<'h, J, R>(shared: &Shared<'h, J, R>, workers: &mut [Worker<'h, J, R>])
 where
     J: Naming + Send + Sync,
-    R: Net<Listener = TcpListener, Stream = TcpStream> + Threads + Wait + Clock + Sync,
+    R: Net<Listener = TcpListener, Stream = TcpStream> + Threads + Wait + Clock + Eprint + Sync,
     requires lane { shared.now.lane.now.name ≡ J.lane }
     requires idle { All (λ w. (w.context.caller ≡ J.fresh) × (w.seat ≡ new_seat J.lane))
         workers.old }
@@ -125,7 +126,7 @@ where
 fn work<'h, J, R>(shared: &Shared<'h, J, R>, worker: &mut Worker<'h, J, R>)
 where
     J: Naming,
-    R: Net<Listener = TcpListener, Stream = TcpStream> + Threads + Wait + Clock + Sync,
+    R: Net<Listener = TcpListener, Stream = TcpStream> + Threads + Wait + Clock + Eprint + Sync,
     requires lane { shared.now.lane.now.name ≡ J.lane }
     requires fresh { worker.old.context.caller ≡ J.fresh }
     requires new { worker.old.seat ≡ new_seat J.lane }
@@ -157,7 +158,13 @@ where
             let limit = shared.limits.back_end_timeout;
             let over_tcp = TcpBackEnd::new(shared.rt, shared.alloc, back_ends, limit);
             let signals = worker.context.signals();
-            let mut back_end = PatientBackEnd::new(shared.rt, shared.alloc, signals, over_tcp);
+            let mut back_end = ToldBackEnd {
+                rt: shared.rt,
+                alloc: shared.alloc,
+                settings: shared.settings,
+                is_verbose: shared.is_verbose,
+                back_end: PatientBackEnd::new(shared.rt, shared.alloc, signals, over_tcp),
+            };
             run_sender(
                 shared.rt,
                 shared.lane,

@@ -34,7 +34,7 @@ fields-preserved c =
     let field = entry c.in-Ok-Some.field in
     let found : next_at d c.fields.left.now ≡ Ok (Some (field, c.in-Ok-Some.rest.now)) = search rules in
     let there : next_at (101 - c.args.room) c.fields.left.now ≡ Ok (Some (field, c.in-Ok-Some.rest.now)) = subst (λ (n : ℕ). next_at n c.fields.left.now ≡ Ok (Some (field, c.in-Ok-Some.rest.now))) at found in
-    let put : PutFor (c.args.room - 1) (101 - c.args.room) c.fields.most field c.extend_from_slice.new.self.items c.put_bare.new.copy.items = search rules in
+    let put : PutFor span_step DefaultsAbove (c.args.room - 1) (101 - c.args.room) c.fields.most field c.extend_from_slice.new.self.items c.put_bare.new.copy.items = search rules in
     going_put span_step no_span holds_default DefaultsAbove span_laws c.args.room c.args.text.now []
     c.fields.copy.items c.extend_from_slice.new.self.items c.put_bare.new.copy.items c.fields.from.now c.fields.left.now c.in-Ok-Some.rest.now c.fields.most c.max-most-in-Ok-Some.result field put.put
     c.in_ok-extend_from_slice.ensures.items put.copied put.alike (omega arith) (omega arith) there c.fields.invariant

@@ -2,14 +2,15 @@ use Rattle.std.proofs.Common.{rules, arith, ◌≡◌, ◌++◌, ◌-◌, ◌<�
 use Rattle.pb_wire.specs.Grammar.{entry}
 use Rattle.pb_wire.specs.Reading.{next_at}
 use Rattle.pb_wire.proofs.Whole.{next_shorter}
-use Rattle.otlp_canonical.proofs.Dropped.{going_none, going_kept, going_dropped, going_same}
+use Rattle.otlp_canonical.specs.Inner.{PutFor}
+use Rattle.otlp_canonical.proofs.Dropped.{going_none, going_kept, going_put, going_same}
 use Rattle.otlp_canonical.proofs.inner.put_bare.Goals as goal
 
 pub fields-init : goal.fields-init
 fields-init g c = going_none g.M.Inner.step g.M.Inner.none g.M.Inner.default g.M.Inner.Above c.defaults_change_nothing.ensures c.args.room c.args.text.now c.args.copy.now.items
 
-pub fields-preserved-then-not-is_default : goal.fields-preserved-then-not-is_default
-fields-preserved-then-not-is_default g c =
+pub fields-preserved-then-spare_in-eq0 : goal.fields-preserved-then-spare_in-eq0
+fields-preserved-then-spare_in-eq0 g c =
     let d = c.saturating_sub-depth.result in
     let at : d ≡ 101 - c.args.room = search rules in
     let field = entry c.in-Ok-Some.field in
@@ -26,9 +27,10 @@ fields-preserved g c =
     let field = entry c.in-Ok-Some.field in
     let found : next_at d c.fields.left.now ≡ Ok (Some (field, c.in-Ok-Some.rest.now)) = search rules in
     let there : next_at (101 - c.args.room) c.fields.left.now ≡ Ok (Some (field, c.in-Ok-Some.rest.now)) = subst (λ (n : ℕ). next_at n c.fields.left.now ≡ Ok (Some (field, c.in-Ok-Some.rest.now))) at found in
-    let is : g.M.Inner.default field ≡ true = search rules in
-    going_dropped g.M.Inner.step g.M.Inner.none g.M.Inner.default g.M.Inner.Above c.defaults_change_nothing.ensures c.args.room c.args.text.now c.args.copy.now.items
-    c.fields.copy.items c.extend_from_slice.new.self.items c.fields.from.now c.fields.left.now c.in-Ok-Some.rest.now c.fields.most c.in-Ok-Some.field.number field c.in_ok-extend_from_slice.ensures.items is (omega arith) (omega arith) (omega arith) there c.fields.invariant
+    let put : PutFor g.M.Inner.step g.M.Inner.Above (c.args.room - 1) (101 - c.args.room) c.fields.most field c.extend_from_slice.new.self.items c.put_field.new.copy.items = search rules in
+    going_put g.M.Inner.step g.M.Inner.none g.M.Inner.default g.M.Inner.Above c.defaults_change_nothing.ensures c.args.room c.args.text.now c.args.copy.now.items
+    c.fields.copy.items c.extend_from_slice.new.self.items c.put_field.new.copy.items c.fields.from.now c.fields.left.now c.in-Ok-Some.rest.now c.fields.most c.max-most-in-Ok-Some.result field put.put
+    c.in_ok-extend_from_slice.ensures.items put.copied put.alike (omega arith) (omega arith) there c.fields.invariant
 
 pub returns : goal.returns
 returns g c whole = record {

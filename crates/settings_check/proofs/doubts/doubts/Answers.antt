@@ -1,6 +1,6 @@
 use Rattle.std.proofs.Common.{◌++◌, codes, ap, ◌∙◌}
 use Rattle.tail_settings.specs.Settings.{settings_view}
-use Rattle.settings_check.specs.Doubts.{address_line, receivers_line, senders_line, header_line, endpoint_lines}
+use Rattle.settings_check.specs.Doubts.{address_line, receivers_line, senders_line, header_line, lines_of_tenants}
 use Rattle.settings_check.proofs.doubts.doubts.Goals as goal
 
 pub returns : goal.returns
@@ -13,4 +13,4 @@ returns c =
     let head = c.as_str-5.ensures.value ∙ (rw (listen, receivers) at c.in_ok-head.ensures) in
     let counts = c.as_str-7.ensures.value ∙ (rw (head, senders) at c.in_ok-counts.ensures) in
     let lines = rw (counts, header) at c.in_ok-lines.ensures in
-    c.in_ok-put_endpoint_lines.ensures ∙ ap (λ t. t ++ endpoint_lines s.tenants) lines
+    c.in_ok-put_tenant_lines.ensures ∙ ap (λ t. t ++ lines_of_tenants s.global.listen s.tenants) lines

@@ -1,4 +1,4 @@
-use Rattle.std.proofs.Common.{◌≡◌, ◌≤◌, [], Bool, Some, None, false, true, length, rules, string_bytes, subst, sym}
+use Rattle.std.proofs.Common.{◌≡◌, ◌≤◌, [], Some, None, false, true, length, rules, string_bytes, subst, sym}
 use Rattle.std.proofs.lemmas.Str.Pattern.{split_text_parts}
 use Rattle.std.specs.Str.{trim_end}
 use Rattle.trace_service.specs.Changed.{HasWarnings, all_else, bad, good, settings_line}

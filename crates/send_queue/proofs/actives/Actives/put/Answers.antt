@@ -1,4 +1,4 @@
-use Rattle.std.proofs.Common.{◌≡◌, ◌∙◌, ap, sym, refl, Some, None, Option, option_map, List, ℕ, [], ◌∷◌, ◌++◌, subst, Bor, is_some, ◌+◌, ◌<◌, ◌≤◌, ◌^◌, arith, rules, true, false, length}
+use Rattle.std.proofs.Common.{◌∙◌, ap, sym, List, [], ◌∷◌, ◌++◌, subst}
 use Rattle.send_queue.specs.Sender.{ActiveData}
 use Rattle.send_queue.specs.View.{active_view, actives_view}
 use Rattle.send_queue.specs.Inside.{AllBefore}

@@ -1,4 +1,4 @@
-use Rattle.std.proofs.Common.{◌≡◌, ◌∙◌, ap, sym, refl, Some, None, Option, option_map, List, ℕ, [], ◌∷◌, ◌++◌, subst, Bor, is_some, ◌+◌, ◌<◌, ◌≤◌, ◌^◌, arith, rules, true, false, length}
+use Rattle.std.proofs.Common.{◌≡◌, ◌∙◌, ap, Some, None, option_map}
 use Rattle.send_retry.specs.Delay.{state_view}
 use Rattle.send_queue.specs.declared.active.Active.{Active}
 use Rattle.send_queue.specs.Sender.{ActiveData, under, replaced}

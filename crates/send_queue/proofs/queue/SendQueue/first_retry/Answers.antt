@@ -1,4 +1,4 @@
-use Rattle.std.proofs.Common.{◌≡◌, ◌∙◌, ap, sym, refl, Some, None, Option, option_map, List, ℕ, [], ◌∷◌, ◌++◌, subst, Bor, is_some, ◌+◌, ◌<◌, ◌≤◌, ◌^◌, arith, rules, true, false, length}
+use Rattle.std.proofs.Common.{◌∙◌, ap, sym}
 use Rattle.std.specs.BinaryHeap.{heap_items}
 use Rattle.send_queue.specs.Sender.{SenderData, first_retry}
 use Rattle.send_queue.proofs.First.{top_in, top_first, none_first}

@@ -1,11 +1,10 @@
-use Rattle.std.proofs.Common.{◌≡◌, ◌∙◌, ap, sym, refl, Some, None, Option, option_map, List, ℕ, [], ◌∷◌, ◌++◌, subst, Bor, is_some, ◌+◌, ◌<◌, ◌≤◌, ◌^◌, arith, rules, true, false, length}
+use Rattle.std.proofs.Common.{◌≡◌, ◌∙◌, ap, sym, refl, Some, None, Option, List, [], ◌∷◌, ◌++◌, subst, ◌+◌, ◌<◌, ◌^◌, true, false}
 use Rattle.std.specs.BinaryHeap.{heap_items, heap_len, heap_capacity}
 use Rattle.send_queue.specs.declared.active.Active.{Active}
-use Rattle.send_queue.specs.declared.active.Retry.{Retry}
 use Rattle.send_queue.specs.Sender.{SenderData, ActiveData, under, without, first_retry, sent_again, job_of, retried, handed_of}
 use Rattle.send_queue.specs.View.{active_view}
 use Rattle.send_queue.specs.Inside.{IsWhole, inside_view}
-use Rattle.send_queue.proofs.Batches.{before_up_to, under_ticket, under-append, without-append}
+use Rattle.send_queue.proofs.Batches.{before_up_to, under-append, without-append}
 use Rattle.send_queue.proofs.First.{first_under}
 use Rattle.send_queue.proofs.Whole.{whole_again, some_wait}
 use Rattle.send_queue.proofs.queue.SendQueue.send_again.Goals as goal

@@ -1,9 +1,8 @@
-use Rattle.std.proofs.Common.{◌≡◌, ◌∙◌, ap, sym, refl, Some, None, Option, option_map, List, ℕ, [], ◌∷◌, ◌++◌, subst, Bor, is_some, ◌+◌, ◌<◌, ◌≤◌, ◌^◌, arith, rules, true, false, length}
+use Rattle.std.proofs.Common.{◌≡◌, ◌∙◌, ap, sym, refl, Some, None, Option, List, ℕ, subst, is_some, true, false}
 use Rattle.std.specs.BinaryHeap.{heap_items, heap_len, heap_capacity}
 use Rattle.send_retry.specs.Class.{AnswerData, answer_view}
 use Rattle.send_retry.specs.Delay.{state_view}
-use Rattle.send_queue.specs.declared.active.Active.{Active}
-use Rattle.send_queue.specs.Sender.{SenderData, ActiveData, FateData, Stays, under, without, replaced, fate, flying, left_by, answered, answered_by}
+use Rattle.send_queue.specs.Sender.{SenderData, ActiveData, FateData, Stays, under, fate, flying, left_by, answered, answered_by}
 use Rattle.send_queue.specs.View.{active_view, fate_view}
 use Rattle.send_queue.specs.Inside.{IsWhole, inside_view}
 use Rattle.send_queue.proofs.Whole.{whole_left, whole_waits, room_left}

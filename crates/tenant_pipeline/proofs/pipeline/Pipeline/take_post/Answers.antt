@@ -1,27 +1,31 @@
 use Rattle.std.proofs.Common.{arith, ◌≡◌, ◌∙◌, ◌+◌, ◌<◌, ◌≤◌, ℕ, List, [], length, sym, ap, subst, true, false, IfOk}
-use Rattle.std.specs.Prelude.{nat_le}
+use Rattle.std.specs.Prelude.{nat_le, nat_lt}
+use Rattle.std.specs.List.{AllByRecursion}
 use Rattle.std.proofs.lemmas.Bool.Decides.{nat_tests}
 use Rattle.std.proofs.lemmas.List.{length-map}
+use Rattle.std.proofs.lemmas.Result.{on_ok_weaker}
 use Rattle.drop_ledger.specs.Ledger.{counted, most_counted}
 use Rattle.span_pool.specs.declared.keys.TextKeys.{TextKeys}
 use Rattle.tail_policy.specs.declared.note.TraceNote.{TraceNote}
 use Rattle.tenant_rules.specs.Answers.{reply_of}
-use Rattle.tenant_rules.specs.Arrivals.{Arrival, valid}
-use Rattle.tenant_rules.specs.Intake.{Verdict}
-use Rattle.tenant_rules.specs.Machine.{all_come, posted, post_verdict}
+use Rattle.tenant_rules.specs.Arrivals.{Arrival, is_valid, valid}
+use Rattle.tenant_rules.specs.Intake.{Verdict, verdict_of}
+use Rattle.tenant_rules.specs.Machine.{all_come, held, posted, post_verdict}
 use Rattle.tenant_rules.specs.State.{State}
 use Rattle.tenant_stores.specs.Part.{Part, part}
 use Rattle.tenant_stores.specs.Trail.{HoldsAll}
 use Rattle.otlp_prepare.specs.Arrivals.{arrival_in}
-use Rattle.tenant_pipeline.specs.Acts.{at}
+use Rattle.tenant_pipeline.specs.Acts.{IsPosted, at}
 use Rattle.tenant_pipeline.specs.Invariant.{PipelineInvariantAt}
 use Rattle.tenant_pipeline.specs.Posts.{all_keys, all_text_keys, arrivals_at, IsTaken, verdict_after}
 use Rattle.tenant_pipeline.specs.Prepared.{arrivals_of}
 use Rattle.tenant_pipeline.specs.StateIn.{counts_in, part_in, state_in, state_of}
-use Rattle.tenant_pipeline.proofs.Posting.{Body, body_is, body_left, on_ok, on_err, on_ok_both, on_err_then}
+use Rattle.tenant_pipeline.proofs.Full.{IsFull, post_full, verdict_full}
+use Rattle.tenant_pipeline.proofs.Posting.{Body, all_valid, body_is, body_left, on_ok, on_err, on_ok_both, on_err_then}
 use Rattle.tenant_pipeline.proofs.Taking.{size_is, verdict_taken, post_taken, verdict_limited}
 use Rattle.tenant_pipeline.proofs.Sweeping.{swept_either}
 use Rattle.tenant_pipeline.proofs.pipeline.Pipeline.take_post.Goals as goal
+use Rattle.tenant_pipeline.proofs.pipeline.Pipeline.take_post.Goals.{After-reply}
 
 -- ---- refused whole
 
@@ -50,6 +54,74 @@ pub returns-then-not-fits-clause-reply : goal.returns-then-not-fits-clause-reply
 returns-then-not-fits-clause-reply c =
     let s = state_in c.args.self.now c.args.stores.now in
     subst (λ (v : Verdict). IfOk c.refusal-then-not-fits.result (λ reply. reply ≡ reply_of v)) (sym (verdict_limited c.args.moment (arrivals_of c.args.prepared.now) s c.if-self.false (over c))) c.refusal-then-not-fits.ensures
+
+-- ---- there is no room for a span
+
+-- so many spans are valid
+many : (c : After-reply) → length c.args.prepared.now.arrivals ≡ length c.parts.result.1.now
+many c = sym (ap length c.parts.ensures.arrivals) ∙ length-map c.parts.result.1.now (arrival_in c.parts.result.0.now)
+
+-- and they may be counted
+full_fits : (c : After-reply) → counted c.args.self.now.ledger + (length c.args.prepared.now.arrivals + c.args.prepared.now.invalid) ≤ most_counted
+full_fits c =
+    let own = c.args.self.now in
+    let test : nat_le (counted own.ledger + c.saturating_add.result) most_counted ≡ true = sym c.fits.ensures ∙ c.if-not-fits.false in
+    let room : counted own.ledger + c.saturating_add.result ≤ most_counted = grind (arith, nat_tests, test) in
+    let sum = c.saturating_add.ensures in
+    let invalid = c.invalid-invalid.ensures in
+    let size = many c in
+    omega (arith, room, sum, invalid, size)
+
+full_valid : (c : After-reply) → AllByRecursion (λ a. is_valid a ≡ true) c.args.prepared.now.arrivals
+full_valid c = subst (λ (xs : List Arrival). AllByRecursion (λ a. is_valid a ≡ true) xs) c.parts.ensures.arrivals (all_valid c.args.prepared.now.policies c.parts.result.0.now c.parts.result.1.now c.parts.ensures.ready)
+
+is_full : (c : After-reply) → let s = state_in c.args.self.now c.args.stores.now in nat_lt (held s) s.section.max_spans ≡ false
+is_full c = sym c.has_room.ensures ∙ c.if-not-has_room.true
+
+-- what the reply leaves
+full : (c : After-reply) → IsPosted (verdict_of (length c.parts.result.1.now + c.invalid-invalid.result) (length c.parts.result.1.now) 0 0) c.args.self.now c.reply.new.self →
+    IsFull c.args.moment c.args.prepared.now.invalid c.args.prepared.now.arrivals c.args.self.now c.reply.new.self (part_in c.args.self.now c.args.stores.now)
+full c post =
+    let own = c.args.self.now in
+    let new = c.reply.new.self in
+    let d = c.args.prepared.now in
+    let sized = subst (λ (k : ℕ). IsPosted (verdict_of (k + c.invalid-invalid.result) k 0 0) own new) (sym (many c)) post in
+    let all = subst (λ (k : ℕ). IsPosted (verdict_of (length d.arrivals + k) (length d.arrivals) 0 0) own new) c.invalid-invalid.ensures sized in
+    post_full c.args.moment d.invalid d.arrivals own new (part_in own c.args.stores.now) c.requires.holds (full_fits c) (is_full c) all
+
+pub returns-then-not-has_room-clause-on_success : goal.returns-then-not-has_room-clause-on_success
+returns-then-not-has_room-clause-on_success c =
+    let own = c.args.self.now in
+    let new = c.reply.new.self in
+    let d = c.args.prepared.now in
+    on_ok_weaker c.reply.result
+    (λ (post : IsPosted (verdict_of (length c.parts.result.1.now + c.invalid-invalid.result) (length c.parts.result.1.now) 0 0) own new).
+    let is = full c post in
+    post_taken c.args.moment d.invalid d.arrivals (state_in own c.args.stores.now) (full_valid c) c.if-self.false (full_fits c) (state_in new c.args.stores.now)
+    (subst (λ (t : ℕ). IsTaken d.arrivals d.invalid c.args.moment (state_in own c.args.stores.now) (state_of new (part t c.args.stores.now))) (sym is.same.tenant) is.taken))
+    c.reply.ensures.on_success
+
+pub returns-then-not-has_room-clause-reply : goal.returns-then-not-has_room-clause-reply
+returns-then-not-has_room-clause-reply c =
+    let own = c.args.self.now in
+    let d = c.args.prepared.now in
+    let m = c.args.moment in
+    let s = state_in own c.args.stores.now in
+    let one = ap (λ (k : ℕ). verdict_of (k + c.invalid-invalid.result) k 0 0) (sym (many c)) in
+    let two = ap (λ (k : ℕ). verdict_of (length d.arrivals + k) (length d.arrivals) 0 0) c.invalid-invalid.ensures in
+    let same : verdict_of (length c.parts.result.1.now + c.invalid-invalid.result) (length c.parts.result.1.now) 0 0 ≡ post_verdict m (arrivals_of d) (at m s) =
+    one ∙ (two ∙ (verdict_full m d.invalid d.arrivals s (is_full c) ∙ sym (verdict_taken m d.invalid d.arrivals s (full_valid c) c.if-self.false (full_fits c)))) in
+    subst (λ (v : Verdict). IfOk c.reply.result (λ reply. reply ≡ reply_of v)) same (c.reply.ensures.reply 0)
+
+pub returns-then-not-has_room-clause-holds : goal.returns-then-not-has_room-clause-holds
+returns-then-not-has_room-clause-holds c =
+    let own = c.args.self.now in
+    let new = c.reply.new.self in
+    on_ok_weaker c.reply.result
+    (λ (post : IsPosted (verdict_of (length c.parts.result.1.now + c.invalid-invalid.result) (length c.parts.result.1.now) 0 0) own new).
+    let is = full c post in
+    subst (λ (t : ℕ). PipelineInvariantAt c.args.moment [] [] new (part t c.args.stores.now)) (sym is.same.tenant) is.holds)
+    c.reply.ensures.on_success
 
 -- ---- the origins are held
 

@@ -1,4 +1,4 @@
-use Rattle.std.proofs.Common.{◌≡◌, ◌∙◌, ap, sym, subst, refl, arith, ℕ, suc, ◌+◌, List, ◌++◌, true}
+use Rattle.std.proofs.Common.{◌≡◌, ◌∙◌, ap, sym, subst, refl, arith, ℕ, suc, List, ◌++◌, true}
 use Rattle.trace_rows.specs.Part.{keys_of}
 use Rattle.tenant_stores.specs.Part.{part}
 use Rattle.tenant_stores.specs.Counts.{one_decided}

@@ -1,4 +1,4 @@
-use Rattle.std.proofs.Common.{◌≡◌, ◌∙◌, ap, sym, subst, refl, arith, ℕ, suc, ◌-◌, Some, None}
+use Rattle.std.proofs.Common.{◌≡◌, ◌∙◌, ap, sym, subst, refl, arith, ℕ, suc, Some, None}
 use Rattle.span_pool.specs.Pool.{with_span}
 use Rattle.span_pool.specs.Pool as pool
 use Rattle.tenant_stores.specs.Part.{part, owner_of}

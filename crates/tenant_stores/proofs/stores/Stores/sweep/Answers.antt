@@ -1,4 +1,4 @@
-use Rattle.std.proofs.Common.{◌≡◌, ◌∙◌, ap, refl, arith, ℕ, suc, ◌+◌, ◌++◌, None}
+use Rattle.std.proofs.Common.{◌≡◌, ◌∙◌, ap, refl, arith, ℕ, suc, ◌++◌, None}
 use Rattle.trace_rows.specs.Part.{keys_of, with_at, without_latest_row, trace_in}
 use Rattle.tenant_stores.specs.Part.{part}
 use Rattle.tenant_stores.specs.Counts.{one_swept, count}

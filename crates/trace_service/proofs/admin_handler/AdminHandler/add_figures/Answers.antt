@@ -1,6 +1,5 @@
-use Rattle.std.proofs.Common.{◌≡◌, ◌∙◌, map, length, option_map, string_bytes}
+use Rattle.std.proofs.Common.{◌∙◌, map, length}
 use Rattle.admin_pages.specs.Figures.{tenant_of}
-use Rattle.drop_ledger.specs.Ledger.{ledger_of}
 use Rattle.trace_service.proofs.Replies.{on_err}
 use Rattle.trace_service.proofs.Shown.{looks_more, on_ok, one_looked, one_refused}
 use Rattle.trace_service.proofs.admin_handler.AdminHandler.add_figures.Goals as goal

@@ -1,4 +1,4 @@
-use Rattle.std.proofs.Common.{◌∙◌, ◌++◌, ap, length, map, sym}
+use Rattle.std.proofs.Common.{◌∙◌, ◌++◌, ap, map, sym}
 use Rattle.std.proofs.lemmas.List.{length-map}
 use Rattle.admin_pages.specs.Figures.{tenant_of}
 use Rattle.admin_pages.specs.Service.{service_text}

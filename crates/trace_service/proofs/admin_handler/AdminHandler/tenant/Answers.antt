@@ -1,11 +1,11 @@
-use Rattle.std.proofs.Common.{◌≡◌, ◌∙◌, None, Option, Some, ap, length, option_map, refl, string_bytes, subst, sym}
+use Rattle.std.proofs.Common.{◌≡◌, ◌∙◌, Some, ap, length, option_map, refl, sym}
 use Rattle.admin_pages.specs.Settings.{settled_text}
 use Rattle.drop_ledger.specs.Ledger.{ledger_of}
 use Rattle.http_edge.specs.declared.message.MediaType.TheVariants.{Json}
 use Rattle.tail_settings.specs.Section.{section_view}
 use Rattle.tail_settings.specs.Settings.{section_at}
 use Rattle.trace_service.specs.Notice.{reply_of, unknown_reply}
-use Rattle.trace_service.specs.Shown.{HasSection, IsKnown, ShowsTenant, figures_with, gone, left, nobody, nothing, shown}
+use Rattle.trace_service.specs.Shown.{ShowsTenant, figures_with, gone, left, nobody, nothing, shown}
 use Rattle.trace_service.proofs.Replies.{if_ok, on_err}
 use Rattle.trace_service.proofs.Shown.{one_looked, one_refused}
 use Rattle.trace_service.proofs.admin_handler.AdminHandler.tenant.Goals as goal

@@ -1,0 +1,16 @@
+use Rattle.std.proofs.Common.{ap, ◌∙◌}
+use Rattle.settings_check.specs.Doubts.{endpoint_line, own_line, tenant_lines}
+use Rattle.settings_check.proofs.doubts.tenant_lines.Goals as goal
+
+pub returns : goal.returns
+unfolding tenant_lines
+returns c =
+    let listen = c.args.listen.now in
+    let name = c.args.name.now in
+    let endpoint = c.as_str-3.ensures.value ∙ c.in_ok-endpoint.ensures ∙ ap (endpoint_line name) c.as_str.ensures.value in
+    let own = c.as_str-4.ensures.value ∙ c.in_ok-own.ensures ∙ ap (own_line listen name) c.as_str-2.ensures.value in
+    let spans = c.as_str-6.ensures.value ∙ c.in_ok-spans.ensures in
+    let retry = c.as_str-8.ensures.value ∙ c.in_ok-retry.ensures in
+    let addresses = c.as_str-5.ensures.value ∙ (rw (endpoint, own) at c.in_ok-addresses.ensures) in
+    let head = c.as_str-7.ensures.value ∙ (rw (addresses, spans) at c.in_ok-head.ensures) in
+    rw (head, retry) at c.in_ok-lines.ensures

@@ -1,0 +1,63 @@
+//! Back ends that refuse posts or don't answer, as an operator is told of them.
+
+use crate::in_force::InForce;
+use crate::naming::Naming;
+use export_edge::BackEnd;
+use job_lane::Job;
+use send_retry::Answer;
+use std::alloc::Global;
+use std::io;
+use std::sync::{Mutex, Wait};
+
+/// Posts to a back end and, where it is verbose, tells standard error of each answer that isn't one of success: whose
+/// back end gave it, and its status. What can't be written is left out, and nothing else changes.
+#[derive(Drop)]
+pub(crate) struct ToldBackEnd<'h, B, J: Naming, R> {
+    pub rt: &'h R,
+    pub alloc: Global,
+    pub settings: &'h Mutex<InForce<J>>,
+    pub is_verbose: bool,
+    pub back_end: B,
+}
+
+impl<'h, B: BackEnd, J: Naming, R: Eprint + Wait> BackEnd for ToldBackEnd<'h, B, J, R> {
+    // Each job is posted once to the back end behind it.
+    ghost posts = { λ old p new. B.posts old.back_end p new.back_end };
+
+    fn post(&mut self, job: &Job) -> Answer {
+        let answer = self.back_end.post(job);
+        if self.is_verbose {
+            let _ = self.tell(job.tenant, &answer);
+        }
+        answer
+    }
+}
+
+impl<'h, B, J: Naming, R: Eprint + Wait> ToldBackEnd<'h, B, J, R> {
+    fn tell(&self, tenant: u32, answer: &Answer) -> io::Result<()> {
+        match answer {
+            Answer::Http {
+                status: 200..300,
+                ..
+            } => Ok(()),
+            Answer::Http { status, .. } => {
+                let name = self.name(tenant);
+                let name = name.as_str();
+                eprintln!(self.rt; "back end of {name}: {status}")
+            }
+            Answer::Failed => {
+                let name = self.name(tenant);
+                let name = name.as_str();
+                eprintln!(self.rt; "back end of {name}: no answer")
+            }
+        }
+    }
+
+    /// The tenant's name, or nothing where it has gone or memory is refused. Meanwhile the settings are locked.
+    fn name(&self, tenant: u32) -> String {
+        match self.settings.lock(self.rt).name(self.alloc, tenant) {
+            Some(name) => name,
+            None => String::new(self.alloc),
+        }
+    }
+}
