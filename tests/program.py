@@ -183,6 +183,8 @@ FEW_SPANS = ("warning: tenant a: max_spans is {}, and send_batch_size is {}: a b
              "get 429 until then\n")
 NO_RETRY = ("warning: tenant a: max_elapsed_time_ms is {}, and the delay before a retry is at least {} ms: no batch is sent "
             "again\n")
+NO_NUMBER = "warning: tenant a: the numeric_attribute policy of the key {} has a min_value above its max_value: it keeps nothing\n"
+NUMERIC = '{{ type = "numeric_attribute", key = "{}", min_value = {}, max_value = {} }}'
 DOUBTS = [
     ("", ENOUGH + TENANT),
     (FEW_SENDERS.replace("is 4", "is 9"), "[global]\nsenders = 9\n" + TENANT),
@@ -222,6 +224,18 @@ DOUBTS = [
         ("initial_interval_ms = 7, max_elapsed_time_ms = 7, randomization_factor = 0", ()),
         ("max_elapsed_time_ms = 2, randomization_factor = 1000", ()),
         ("max_interval_ms = 1, max_elapsed_time_ms = 2499", (2499, 2500)))),
+    *(("".join(map(NO_NUMBER.format, keys)), f"{ENOUGH}[[tenant]]\nname = 'a'\ntail_sampling.policy = [{policies}]\n")
+      for policies, keys in (
+        (NUMERIC.format("k", 1, 0), ["k"]), (NUMERIC.format("k", 1, 1), []), (NUMERIC.format("k", 0, 1), []),
+        (NUMERIC.format("k", -1, -2), ["k"]), (NUMERIC.format("k", -2, -1), []), (NUMERIC.format("k", 0, -1), ["k"]),
+        (NUMERIC.format("k", -1, 0), []), (NUMERIC.format("k", 2**63 - 1, -2**63), ["k"]),
+        (NUMERIC.format("k", -2**63, 2**63 - 1), []), (NUMERIC.format("\\u001b\\\\k", 1, 0), ["\\x1b\\x5ck"]),
+        (NUMERIC.format("k", 9, 8) + ", " + NUMERIC.format("k", 9, 8), ["k", "k"]),
+        (f"{{ type = 'and', and_sub_policy = [{NUMERIC.format('k', 1, 0)}] }}", ["k"]),
+        (f"{{ type = 'and', and_sub_policy = [{NUMERIC.format('k', 0, 1)}] }}", []),
+        (f"{{ type = 'latency', threshold_ms = 1 }}, {NUMERIC.format('k', 1, 0)}, {{ type = 'and', and_sub_policy = ["
+         f"{NUMERIC.format('l', 0, 0)}, {NUMERIC.format('m', 3, 2)}, {{ type = 'always_sample' }}, {NUMERIC.format('n', 5, 4)}"
+         f"] }}, {NUMERIC.format('o', 1, 0)}", ["k", "m", "n", "o"]))),
 ]
 # a key that no setting has, in a document of one tenant, and the warning of it
 UNKNOWN = [

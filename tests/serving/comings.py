@@ -1,12 +1,14 @@
 """Tenants that come and go while the service runs, by lines of its input."""
 
 import threading
+import time
 from collections import Counter
 from pathlib import Path
 from types import SimpleNamespace
 
 from serving.agreement import SPAN, body_of, compare
-from serving.talk import BackEnd, Service, body, check, in_threads, line_of, request, tenant, wait_for
+from serving.talk import (BackEnd, Service, body, check, head_of, in_threads, line_of, read_message, request, tenant,
+                          wait_for)
 
 # So many come and go, one after the other, in the test of memory, and beside others.
 ROUNDS = 200
@@ -132,6 +134,40 @@ def while_it_goes(folder):
         check("the end", service.end(), (0, line_of("a", accepted=20, exported=20), b""))
 
 
+def begun(service, text):
+    """A connection over which a post to c begins: its head was read, and the body, as long as this text, is to come."""
+    peer = service.connect()
+    peer.sendall(head_of("c", len(text), "Expect: 100-continue\r\n"))
+    check("it is to go on", read_message(peer.recv), b"HTTP/1.1 100 Continue\r\n\r\n")
+    # That is written right before the head is looked at.
+    time.sleep(0.1)
+    return peer
+
+
+def while_its_body_comes(folder):
+    """A head is looked at by the tenants that there are then, so a body is refused whose tenant comes while it comes. So
+    is one whose tenant goes meanwhile. The next post over the same connection is as any other."""
+    text = body(1, 1)
+
+    def ended(peer):
+        peer.sendall(text)
+        reply = read_message(peer.recv)
+        return int(reply.split(b" ")[1]), reply.partition(b"\r\n\r\n")[2]
+
+    with BackEnd() as back_end, Service(folder, [tenant("a", back_end)]) as service:
+        path = document(folder, tenant("c", back_end))
+        with begun(service, text) as early:
+            check("it comes", added(service, path), "added c 1\n")
+            with begun(service, text) as late:
+                check("a body for a tenant that came meanwhile", ended(early), FORBIDDEN)
+                check("the next one", service.post("c", body(2, 2), early), (200, b""))
+                check("it goes", retired(service, "c"), line_of("c", accepted=1, exported=1))
+                check("a body for a tenant that went meanwhile", ended(late), FORBIDDEN)
+                check("the next one", service.post("a", body(3, 3), late), (200, b""))
+        check("the end", service.end(), (0, line_of("a", accepted=1, exported=1), b""))
+        check("what was sent", back_end.bodies(), [body(2, 2), body(3, 3)])
+
+
 def beside_others(folder):
     """While clients of two tenants post without a rest, others come, take spans and go. Of each tenant, those that went
     too, the spans that clients were told are taken, its last counters, and what came to its back end are the same."""
@@ -212,4 +248,5 @@ def memory_of_many(folder, rounds):
     print(f"{first} kB once the first had gone, {last} kB at the end", flush=True)
 
 
-TESTS = (without_spans, with_spans, with_an_audit, refused_documents, while_it_goes, beside_others, memory_comes_back)
+TESTS = (without_spans, with_spans, with_an_audit, refused_documents, while_it_goes, while_its_body_comes, beside_others,
+         memory_comes_back)

@@ -6,7 +6,7 @@ from itertools import count
 from pathlib import Path
 
 from replay.make_script import number_field, piece
-from serving.talk import ERRORS, BackEnd, Service, body, check, in_threads, tenant, wait_for
+from serving.talk import ERRORS, BackEnd, Service, body, check, in_threads, read_message, tenant, wait_for
 
 # Each of these spans has a resource of its own, so that a body takes many times its bytes while it is made ready, and more
 # than what the service keeps back.
@@ -14,8 +14,9 @@ SPANS = 400_000
 ROOMS = [int(8_000_000 * 1.4 ** step) for step in range(16)]
 
 BODY = 1_000_000
-# A span waits until the end, in milliseconds.
-WAIT = 60_000
+# Each body's trace: how long it waits, in milliseconds, and how many spans its tenant has room for, so that there is room
+# for one when the body comes.
+WAITS, ISNT_SAMPLED = (60_000, 2), (1, 1)
 # So many of these are more than are made ready at a time.
 LARGE, MANY, AT_A_TIME = 10_000_000, 12, 41_943_040
 IDS = piece(1, b"\1" * 16) + piece(2, b"\2" * 8)
@@ -69,9 +70,6 @@ SHAPES = {
     "spans": (SPAN, in_scope, 8),
     "spans that are written anew": (piece(2, IDS + piece(3, b"")), in_scope, 8),
     "resource spans of a span, each of another resource": (of_another_resource, alone, 8),
-}
-# The same where there is room for none, so that no text is kept for a span to come.
-FULL = {
     "resource spans of a span, each of another resource and scope": (of_another_scope, alone, 8),
     "the same, each text another": (of_four_other_texts, alone, 8),
 }
@@ -140,12 +138,15 @@ def refused_while_made_ready(folder):
         check("the end", service.end()[::2], (0, b""))
 
 
-def times_its_bytes(folder, back_end, text, wait=1):
-    """How many times its bytes a service has more at most while it makes a body ready, and the status of the reply. Its
-    tenant has room for one span, and has none while another one waits so many milliseconds."""
-    with Service(folder, [tenant("a", back_end, wait=wait, policies=ERRORS, most=1)], shards=1, receivers=1, senders=1,
+def times_its_bytes(folder, back_end, text, trace):
+    """How many times its bytes a service has more at most while it makes a body ready, and the status of the reply. A
+    span of the body's trace came before, and there is room for another one."""
+    wait, most = trace
+    with Service(folder, [tenant("a", back_end, wait=wait, policies=ERRORS, most=most)], shards=1, receivers=1, senders=1,
                  parts=1) as service:
         service.post("a", body(1, 1))
+        if trace == ISNT_SAMPLED:
+            accepted(service)
         process = service.run.pid
         before = bytes_of(process, "VmHWM")
         status, _ = service.post("a", text)
@@ -156,13 +157,11 @@ def most_while_made_ready(folder):
     """What a body takes while it is made ready is bounded by its bytes, whatever it is made of."""
     with BackEnd() as back_end:
         for shape, (again, round_it, most) in SHAPES.items():
-            times, status = times_its_bytes(folder, back_end, round_it(body_of(again)))
-            check(f"{shape}: {times:.1f} times its bytes, at most {most}", times <= most, True)
-            check(f"{shape}: answered", status in (200, 429), True)
-        for shape, (again, round_it, most) in FULL.items():
-            times, status = times_its_bytes(folder, back_end, round_it(body_of(again)), WAIT)
-            check(f"{shape}, without room: {times:.1f} times its bytes, at most {most}", times <= most, True)
-            check(f"{shape}, without room: refused", status, 429)
+            text = round_it(body_of(again))
+            for trace, told in ((WAITS, "waits"), (ISNT_SAMPLED, "isn't sampled")):
+                times, status = times_its_bytes(folder, back_end, text, trace)
+                check(f"{shape}, of a trace that {told}: {times:.1f} times its bytes, at most {most}", times <= most, True)
+                check(f"{shape}, of a trace that {told}: answered", status, 200)
 
 
 def many_large_bodies(folder):
@@ -184,4 +183,46 @@ def many_large_bodies(folder):
     check(f"{more} bytes more at most", more <= MANY * len(text) + AT_A_TIME * most, True)
 
 
-TESTS = (refused_while_made_ready, most_while_made_ready, many_large_bodies)
+# What a head says that settles its reply, and the reply's status.
+FOR_A = "X-Scope-OrgID: a\r\n"
+PROTOBUF = "Content-Type: application/x-protobuf\r\n"
+SETTLED = {
+    "another path": ("POST /v1/metrics", FOR_A + PROTOBUF, 404),
+    "another method": ("PUT /v1/traces", FOR_A + PROTOBUF, 405),
+    "a tenant that nobody is": ("POST /v1/traces", "X-Scope-OrgID: nobody\r\n" + PROTOBUF, 403),
+    "another type": ("POST /v1/traces", FOR_A + "Content-Type: application/json\r\n", 415),
+    "a body that is compressed": ("POST /v1/traces", FOR_A + PROTOBUF + "Content-Encoding: gzip\r\n", 415),
+}
+# How the end of a body is found: what stands before it, and behind it.
+LARGEST = 20_971_520
+FRAMED = {
+    "by its length": (f"Content-Length: {LARGEST}\r\n\r\n", b""),
+    "in chunks": (f"Transfer-Encoding: chunked\r\n\r\n{LARGEST:x}\r\n", b"\r\n0\r\n\r\n"),
+}
+# What connections may take, whatever is sent over them.
+SMALL = 8_000_000
+
+
+def bodies_that_nobody_wants(folder):
+    """Clients whose heads settle their replies send the largest body there may be, but for its last byte, all at once:
+    the service has hardly more for it. Behind that byte each is told why it is refused, and posts over the same
+    connection."""
+    ways = [(f"{why}, {how}", *settled, *framed) for why, settled in SETTLED.items() for how, framed in FRAMED.items()]
+    with BackEnd() as back_end, Service(folder, [tenant("a", back_end)], receivers=len(ways) + 1) as service:
+        service.post("a", body(1, 1))
+        before = bytes_of(service.run.pid, "VmHWM")
+        peers = [service.connect() for _ in ways]
+        in_threads(*(lambda peer=peer, way=way: peer.sendall(
+            f"{way[1]} HTTP/1.1\r\nHost: c\r\n{way[2]}{way[4]}".encode() + b"a" * (LARGEST - 1))
+            for peer, way in zip(peers, ways)))
+        more = bytes_of(service.run.pid, "VmHWM") - before
+        check(f"{more} bytes more, at most {SMALL}", more <= SMALL, True)
+        for number, (peer, (what, _, _, status, _, tail)) in enumerate(zip(peers, ways), 2):
+            peer.sendall(b"a" + tail)
+            check(what, int(read_message(peer.recv).split(b" ")[1]), status)
+            check(f"a post behind {what}", service.post("a", body(number, 1), peer), (200, b""))
+            peer.close()
+        check("spans that were taken", accepted(service), len(ways) + 1)
+
+
+TESTS = (refused_while_made_ready, most_while_made_ready, many_large_bodies, bodies_that_nobody_wants)

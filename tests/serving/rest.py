@@ -1,10 +1,11 @@
 """How the service rests where it has nothing to do, and that it wakes in time."""
 
 import time
+import uuid
 from pathlib import Path
 
 from serving.admin import LookedAfter
-from serving.talk import BackEnd, Service, body, check, in_threads, tenant, wait_for
+from serving.talk import TAKEN, BackEnd, Service, body, check, in_threads, request, tenant, wait_for
 
 SHARDS = 16
 SENDERS = 48
@@ -14,9 +15,18 @@ MOST_A_SECOND = 160
 # So many senders rest for four seconds each.
 MANY = "256"
 AT_ONCE = 0.9
+# With so many shards a turner looks by itself about once a second.
+MOST_SHARDS = 64
+# A back end answers after so many seconds, which is much longer than until so many batches wait.
+ANSWER = 0.02
+BATCHES = 10
+# A single turner looks some sixty times a second.
+MOST_LOOKS = 100
+# So long a client waits between two posts, by which all together post far less often than each other millisecond.
+APART = 0.02
 # until a span is decided on, in milliseconds
 WAIT = 5_000
-# clients that post for so many seconds as fast as they are answered
+# clients that post for so many seconds
 CLIENTS = 4
 BUSY = 2
 
@@ -77,24 +87,81 @@ def rests_until_something_is_due(folder):
             check("status", service.end()[0], 0)
 
 
-def many_posts_share_turns(folder):
-    """Each post rings the turner of its shard, and nevertheless that makes no more than a turn a millisecond."""
-    with BackEnd() as back_end, LookedAfter(folder, [tenant("a", back_end, wait=10 * WAIT)], shards=1) as service:
+def idle_turns_beside_posts(folder, apart=0, **how):
+    """How many turns a second found nothing in the one shard of a tenant with such a section, while clients post, each
+    so many seconds behind its last reply."""
+    with BackEnd() as back_end, LookedAfter(folder, [tenant("a", back_end, **how)], shards=1) as service:
         posts = []
 
         def client():
             with service.connect() as peer:
                 end = time.monotonic() + BUSY
                 while time.monotonic() < end:
-                    posts.append(service.post("a", body(1, 1), peer)[0])
+                    posts.append(service.post("a", request((uuid.uuid4().bytes, bytes(7) + b"1", b"")), peer)[0])
+                    time.sleep(apart)
 
         begun, before = time.monotonic(), service.metric("nimchaes_idle_turns_total")
         in_threads(*[client] * CLIENTS)
         turns = service.metric("nimchaes_idle_turns_total") - before
-        took = 1_000 * (time.monotonic() - begun)
+        took = time.monotonic() - begun
         check("what posts are told", set(posts), {200})
-        check(f"{turns:.0f} turns that found nothing in {took:.0f} ms, of {len(posts)} posts", turns < 1.2 * took, True)
         check("status", service.drained()[0], 0)
+        return turns / took
+
+
+def many_posts_share_turns(folder):
+    """Where posts come often each rings the turner of its shard, and nevertheless that makes no more than a turn a
+    millisecond."""
+    a_second = idle_turns_beside_posts(folder, wait=10 * WAIT)
+    check(f"{a_second:.0f} turns that found nothing a second", MOST_LOOKS < a_second < 1_200, True)
+
+
+def waiting_posts_wake_nobody(folder):
+    """Where posts come now and then, one whose spans are due later than what waits already rings no turner: that looks
+    as seldom as at rest."""
+    a_second = idle_turns_beside_posts(folder, APART, wait=10 * WAIT)
+    check(f"{a_second:.0f} turns that found nothing a second", a_second < MOST_LOOKS, True)
+
+
+def a_sooner_post_wakes(folder):
+    """A span that is due sooner than one that waits already leaves in time: its post wakes the turner, which else looks
+    once a second."""
+    with BackEnd() as back_end:
+        later = [tenant(f"later{number}", back_end, wait=10 * WAIT) for number in range(MOST_SHARDS)]
+        sooner = [tenant(f"sooner{number}", back_end) for number in range(MOST_SHARDS)]
+        with Service(folder, later + sooner, shards=MOST_SHARDS) as service:
+            for number in range(MOST_SHARDS):
+                check("a post", service.post(f"later{number}", body(1, 1))[0], 200)
+            time.sleep(1)
+            posted = []
+            for number in range(MOST_SHARDS):
+                check("a post", service.post(f"sooner{number}", body(2, 1))[0], 200)
+                posted.append(time.monotonic())
+                time.sleep(0.01)
+            wait_for(lambda: len(back_end.posts) == MOST_SHARDS, "the spans leave")
+            late = sorted(at - then for then, (_, _, at) in zip(posted, back_end.posts))
+            check("half of the spans come in time", late[len(late) // 2] < 0.1, True)
+            check("status", service.end()[0], 0)
+
+
+def an_answer_wakes(folder):
+    """Behind an answer the next batch of a tenant with one consumer leaves at once, where its turner looks by itself
+    once a second."""
+    def reply(_):
+        time.sleep(ANSWER)
+        return TAKEN
+
+    with BackEnd(reply) as back_end:
+        tenants = [tenant(f"t{number}", back_end, batch=1) for number in range(MOST_SHARDS)]
+        with Service(folder, tenants, shards=MOST_SHARDS) as service:
+            for number in range(BATCHES):
+                check("a post", service.post("t1", body(number + 1, 1))[0], 200)
+                time.sleep(0.003)
+            wait_for(lambda: len(back_end.posts) == BATCHES, "all batches leave")
+            came = [at for _, _, at in back_end.posts]
+            apart = sorted(later - sooner for sooner, later in zip(came, came[1:]))
+            check("half of the batches leave at once", apart[len(apart) // 2] < 0.1, True)
+            check("status", service.end()[0], 0)
 
 
 def starts_at_once(folder):
@@ -116,5 +183,5 @@ def ends_at_once(folder):
         check("it ends at once", time.monotonic() - begun < AT_ONCE, True)
 
 
-TESTS = (rests_and_wakes, rests_until_something_is_due, many_posts_share_turns, starts_at_once,
-         ends_at_once)
+TESTS = (rests_and_wakes, rests_until_something_is_due, many_posts_share_turns, waiting_posts_wake_nobody,
+         a_sooner_post_wakes, an_answer_wakes, starts_at_once, ends_at_once)

@@ -3,3 +3,4 @@ pub mod Joined
 pub mod Numbers
 pub mod Pieces
 pub mod Read
+pub mod Asked

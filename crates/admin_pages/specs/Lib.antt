@@ -2,6 +2,7 @@ pub mod Counter
 pub mod Figures
 pub mod Gauge
 pub mod Json
+pub mod Law
 pub mod Metrics
 pub mod Report
 pub mod Route

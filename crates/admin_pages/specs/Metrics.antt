@@ -102,7 +102,7 @@ abbrev pub ready_sample : List ℕ → Option ℕ → List ℕ
 ready_sample name (Some moment) = labelled_text ready_metric (codes "tenant") name (seconds_text moment)
 ready_sample name None = []
 
--- the same of these tenants
+-- a sample for each of these tenants of which something is due
 abbrev pub ready_samples : List TenantData → List ℕ
 ready_samples [] = []
 ready_samples (tenant ∷ tenants) = ready_sample tenant.name tenant.ready ++ ready_samples tenants

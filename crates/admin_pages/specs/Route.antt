@@ -50,7 +50,7 @@ of_tenant method name =
     if reads method then Tenant name
     else if bytes_eq method (codes "DELETE") then Retire name else OtherMethod (codes "GET, HEAD, DELETE")
 
--- the same, where the name has no byte too
+-- what is asked of what stands behind the path of all tenants: of a tenant, where that is a byte or more
 abbrev pub of_named : List ℕ → List ℕ → RouteData
 of_named method [] = NoSuchPath
 of_named method (byte ∷ bytes) = of_tenant method (byte ∷ bytes)

@@ -80,7 +80,8 @@ classes_of counts =
     (codes "2xx", counts.success) ∷ (codes "4xx", counts.client_error) ∷ (codes "5xx", counts.server_error)
     ∷ (codes "other", counts.other) ∷ []
 
--- the same of back ends' answers, which may have any status, behind a figure for batches to which no whole answer came
+-- a figure for each class of the statuses of back ends' answers, which may be any, behind one for batches to which no
+-- whole answer came
 abbrev pub answers_of : StatusCounts → ℕ → List (List ℕ × ℕ)
 answers_of counts failed = (codes "none", failed) ∷ classes_of counts
 

@@ -17,12 +17,12 @@ status_text unset = codes "\"UNSET\""
 status_text ok = codes "\"OK\""
 status_text error = codes "\"ERROR\""
 
--- the elements of an array, of which the first stands behind this and each other one behind a comma
+-- statuses as the elements of an array, of which the first stands behind this and each other one behind a comma
 abbrev pub statuses_behind : List ℕ → List StatusData → List ℕ
 statuses_behind mark [] = []
 statuses_behind mark (status ∷ statuses) = mark ++ status_text status ++ statuses_behind (codes ",") statuses
 
--- the same, of strings
+-- strings as the elements of an array, of which the first stands behind this and each other one behind a comma
 abbrev pub strings_behind : List ℕ → List (List ℕ) → List ℕ
 strings_behind mark [] = []
 strings_behind mark (text ∷ texts) = mark ++ string_text text ++ strings_behind (codes ",") texts

@@ -1,6 +1,8 @@
 //! What an operator is shown of a service: pages over plain figures.
 #![tactic(auto)]
 
+ghost use Rattle.admin_pages.specs.Law.{TenantsAreRead, TenantsAreRetired};
+
 mod counter;
 mod figures;
 mod gauge;
@@ -24,3 +26,10 @@ pub use crate::service::{ServiceCounts, ServiceFigures, StatusCounts, put_servic
 pub use crate::settings::put_settled_tenant;
 pub use crate::status::{STATUS_COUNTS, status_place};
 pub use crate::token::same_token;
+
+/// A tenant's figures are asked for by GET or HEAD at `/tenants/` with its name of a byte or more behind it, and that
+/// it goes by DELETE there, and by nothing else: a law over the definitions.
+pub fn tenants_are_asked_for()
+    ensures figures { TenantsAreRead }
+    ensures retired { TenantsAreRetired }
+{}

@@ -11,7 +11,7 @@ pub fn same_token(wanted: &[u8], given: &[u8]) -> bool
     wanted.len() == given.len() && same_bytes(wanted, given)
 }
 
-/// The same of tokens of one length.
+/// Whether two tokens of one length are the same.
 fn same_bytes(wanted: &[u8], given: &[u8]) -> bool
     requires { length wanted.now ≡ length given.now }
     ensures { result ≡ bytes_eq wanted.now given.now }

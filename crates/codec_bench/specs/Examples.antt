@@ -3,9 +3,11 @@ use Rattle.std.specs.Prelude.{◌≡◌, codes, ℕ, ◌-◌, ◌^◌, List, [],
 use Rattle.otlp_trace.specs.Data.{ScopeSpansData, ResourceSpansData, RequestData}
 use Rattle.otlp_read.specs.declared.fault.ReadFault.TheVariants as read
 use Rattle.otlp_trace.specs.Defaults.{no_span}
-use Rattle.codec_bench.specs.declared.fault.BenchFault.TheVariants.{Usage, Body, NotCanonical, InputOutput, OutOfMemory}
-use Rattle.codec_bench.specs.Round.{spans_of, in_64_bits, IsWrittenAgain, body_fault}
-use Rattle.codec_bench.specs.Status.{status_of}
+use Rattle.codec_bench.specs.declared.fault.BodyFault.TheVariants.{Bad, NotCanonical}
+use Rattle.codec_bench.specs.Round.{spans_of, in_64_bits, IsWrittenAgain}
+use Rattle.codec_bench.specs.Faults.{body_fault}
+use Rattle.bench_task.specs.declared.fault.BenchFault.TheVariants.{Usage, Input, InputOutput, OutOfMemory}
+use Rattle.bench_task.specs.Status.{status_of}
 use Rattle.bench_task.specs.Task.{TaskData, check_stored, measure, Asks}
 
 -- ---- requests
@@ -63,7 +65,9 @@ pub record Arguments : Type 0 where
 -- ---- faults
 
 pub record Faults : Type 0 where
-  pub statuses : map status_of (Usage ∷ Body read.Truncated ∷ NotCanonical ∷ InputOutput ∷ OutOfMemory ∷ [])
+  pub statuses :
+      map status_of (Usage ∷ Input (Bad read.Truncated) ∷ Input NotCanonical ∷ InputOutput ∷ OutOfMemory ∷ [])
       ≡ 2 ∷ 1 ∷ 1 ∷ 1 ∷ 3 ∷ []
   pub of_memory : body_fault read.OutOfMemory ≡ OutOfMemory
-  pub of_the_body : map body_fault (read.Truncated ∷ read.NotUtf8 ∷ []) ≡ Body read.Truncated ∷ Body read.NotUtf8 ∷ []
+  pub of_the_body : map body_fault (read.Truncated ∷ read.NotUtf8 ∷ [])
+      ≡ Input (Bad read.Truncated) ∷ Input (Bad read.NotUtf8) ∷ []

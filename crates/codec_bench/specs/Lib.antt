@@ -1,3 +1,3 @@
 pub mod Round
-pub mod Status
+pub mod Faults
 pub mod Examples

@@ -15,12 +15,8 @@ mod measure;
 mod preparing;
 mod round;
 
-ghost use Rattle.std.specs.Prelude.{◌≡◌};
-ghost use Rattle.std.specs.Process.{exit_status};
-ghost use Rattle.codec_bench.specs.Status.{end_status};
-
-use bench_task::{Task, asked_task};
-use fault::BenchFault;
+use bench_task::{BenchFault, Task, asked_task, ended};
+use fault::BodyFault;
 use measure::measure;
 use preparing::measure_prepare;
 use round::checked_round;
@@ -32,28 +28,16 @@ use std::{env, fs};
 /// The stored body.
 const STORED: &str = "request.pb";
 
-fn main(rt: HostRuntime) -> ExitCode {
-    ended(&rt, run(&rt))
-}
+/// What the program takes.
+const USAGE: &str = "usage: codec_bench [FILE ROUNDS [POLICIES]]";
 
-/// The status with which the program ends. A fault is told on standard error.
-fn ended(rt: &impl Eprint, end: Result<(), BenchFault>) -> ExitCode
-    ensures { exit_status result ≡ end_status end }
-{
-    match end {
-        Ok(()) => ExitCode::SUCCESS,
-        Err(fault) => {
-            let status = fault.status();
-            // Where standard error can't be written, the status has to do.
-            let _ = rt.eprintln(fault);
-            ExitCode::from(status)
-        }
-    }
+fn main(rt: HostRuntime) -> ExitCode {
+    ended(&rt, USAGE, run(&rt))
 }
 
 fn run<R: Threads + Sync + Env + Files + Clock + Print + AllocGlobal>(
     rt: &R,
-) -> Result<(), BenchFault> {
+) -> Result<(), BenchFault<BodyFault>> {
     let mut args = Vec::new(rt.alloc());
     for arg in env::args(rt)?.skip(1) {
         args.push(arg)?;
@@ -77,7 +61,7 @@ fn run_prepare<R: Threads + Sync + Files + Clock + Print + AllocGlobal>(
     path: &str,
     rounds: &str,
     policies: &str,
-) -> Result<(), BenchFault> {
+) -> Result<(), BenchFault<BodyFault>> {
     let (Ok(rounds), Ok(policies)) = (rounds.parse::<u32>(), policies.parse::<u32>()) else {
         return Err(BenchFault::Usage);
     };
@@ -86,7 +70,7 @@ fn run_prepare<R: Threads + Sync + Files + Clock + Print + AllocGlobal>(
 }
 
 /// Checks one round on the stored body.
-fn check_stored(rt: &(impl Files + Print + AllocGlobal)) -> Result<(), BenchFault> {
+fn check_stored(rt: &(impl Files + Print + AllocGlobal)) -> Result<(), BenchFault<BodyFault>> {
     let body = fs::read(rt, STORED)?;
     let spans = checked_round(rt.alloc(), body.as_slice())?;
     let bytes = body.len();

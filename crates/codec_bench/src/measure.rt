@@ -5,11 +5,11 @@ ghost use Rattle.otlp_trace.specs.Data.{RequestData};
 ghost use Rattle.otlp_trace.specs.Text.{request_text};
 ghost use Rattle.otlp_trace.specs.View.{request_view};
 ghost use Rattle.otlp_read.specs.Value.{IsValue};
-ghost use Rattle.codec_bench.specs.Round.{IsOfRound};
+ghost use Rattle.codec_bench.specs.Faults.{IsOfRound};
 
-use crate::fault::BenchFault;
+use crate::fault::{BodyFault, of_body};
 use crate::round::spans_len;
-use bench_task::per_second;
+use bench_task::{BenchFault, per_second};
 use otlp_read::read_request;
 use otlp_trace::{ExportTraceServiceRequest, write_request};
 use std::alloc::Global;
@@ -22,12 +22,12 @@ pub(crate) fn measure(
     rt: &(impl Clock + Print + AllocGlobal),
     body: &[u8],
     rounds: u32,
-) -> Result<(), BenchFault>
+) -> Result<(), BenchFault<BodyFault>>
     // Nothing is measured on a body without a value.
     ensures value { OnOk result ((v : RequestData) × IsValue body.now v) }
 {
     let alloc = rt.alloc();
-    let request = read_request(alloc, body)?;
+    let request = read_request(alloc, body).map_err(of_body)?;
     let mut text = Vec::new(alloc);
     write_request(alloc, &mut text, &request)?;
     let spans = spans_len(&request);
@@ -41,7 +41,7 @@ fn measure_reads(
     body: &[u8],
     spans: usize,
     rounds: u32,
-) -> Result<(), BenchFault> {
+) -> Result<(), BenchFault<BodyFault>> {
     let start = Instant::now(rt)?;
     read_rounds(rt.alloc(), body, rounds)?;
     report(rt, "read", body.len(), spans, rounds, start)
@@ -53,7 +53,7 @@ fn measure_writes(
     text: &mut Vec<u8>,
     spans: usize,
     rounds: u32,
-) -> Result<(), BenchFault> {
+) -> Result<(), BenchFault<BodyFault>> {
     let start = Instant::now(rt)?;
     write_rounds(rt.alloc(), request, text, rounds)?;
     report(rt, "written", text.len(), spans, rounds, start)
@@ -65,18 +65,18 @@ fn measure_both(
     text: &mut Vec<u8>,
     spans: usize,
     rounds: u32,
-) -> Result<(), BenchFault> {
+) -> Result<(), BenchFault<BodyFault>> {
     let start = Instant::now(rt)?;
     both_rounds(rt.alloc(), body, text, rounds)?;
     report(rt, "both", body.len(), spans, rounds, start)
 }
 
-fn read_rounds(alloc: Global, body: &[u8], rounds: u32) -> Result<(), BenchFault>
+fn read_rounds(alloc: Global, body: &[u8], rounds: u32) -> Result<(), BenchFault<BodyFault>>
     ensures read { OnOk result (0 < rounds → (v : RequestData) × IsValue body.now v) }
     ensures of_round { IfErr result IsOfRound }
 {
     'each: for _round in 0..rounds {
-        let _request = read_request(alloc, body)?;
+        let _request = read_request(alloc, body).map_err(of_body)?;
     }
     Ok(())
 }
@@ -86,7 +86,7 @@ fn write_rounds(
     request: &ExportTraceServiceRequest,
     text: &mut Vec<u8>,
     rounds: u32,
-) -> Result<(), BenchFault>
+) -> Result<(), BenchFault<BodyFault>>
     ensures written { OnOk result (0 < rounds
         → text.new.items ≡ request_text (request_view request.now)) }
     ensures of_round { IfErr result IsOfRound }
@@ -103,13 +103,13 @@ fn both_rounds(
     body: &[u8],
     text: &mut Vec<u8>,
     rounds: u32,
-) -> Result<(), BenchFault>
+) -> Result<(), BenchFault<BodyFault>>
     ensures both { OnOk result (0 < rounds → (v : RequestData) × IsValue body.now v
         × (text.new.items ≡ request_text v)) }
     ensures of_round { IfErr result IsOfRound }
 {
     'each: for _round in 0..rounds {
-        let request = read_request(alloc, body)?;
+        let request = read_request(alloc, body).map_err(of_body)?;
         text.clear();
         write_request(alloc, text, &request)?;
     }
@@ -124,7 +124,7 @@ fn report(
     spans: usize,
     rounds: u32,
     start: Instant,
-) -> Result<(), BenchFault> {
+) -> Result<(), BenchFault<BodyFault>> {
     let nanos = start.elapsed(rt)?.as_nanos();
     let bytes = per_second(bytes, rounds, nanos);
     let spans = per_second(spans, rounds, nanos);

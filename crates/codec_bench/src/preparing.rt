@@ -1,6 +1,7 @@
 //! Bodies made ready for a tenant, as the collector does it.
 
-use crate::fault::BenchFault;
+use crate::fault::{BodyFault, of_refusal, of_settings};
+use bench_task::BenchFault;
 use bytes::Bytes;
 use otlp_prepare::prepare;
 use std::alloc::{AllocError, Global};
@@ -26,8 +27,8 @@ fn document(alloc: Global, policies: u32) -> Result<String, AllocError> {
 }
 
 /// The section of a tenant with so many policies, 1 to 64.
-fn section(alloc: Global, policies: u32) -> Result<Section, BenchFault> {
-    let settings = load(alloc, document(alloc, policies)?.as_str())?;
+fn section(alloc: Global, policies: u32) -> Result<Section, BenchFault<BodyFault>> {
+    let settings = load(alloc, document(alloc, policies)?.as_str()).map_err(of_settings)?;
     match settings.tenants.into_iter().next() {
         Some((_name, tenant)) => Ok(tenant.section),
         None => Err(BenchFault::Usage),
@@ -41,7 +42,7 @@ pub(crate) fn measure_prepare<R: Threads + Sync + Clock + Print + AllocGlobal>(
     body: &[u8],
     rounds: u32,
     policies: u32,
-) -> Result<(), BenchFault> {
+) -> Result<(), BenchFault<BodyFault>> {
     let section = section(rt.alloc(), policies)?;
     let start = Instant::now(rt)?;
     let spans = prepare_rounds(rt, &section, body, rounds)?;
@@ -56,13 +57,13 @@ fn prepare_rounds<R: Threads + Sync + AllocGlobal>(
     section: &Section,
     body: &[u8],
     rounds: u32,
-) -> Result<usize, BenchFault> {
+) -> Result<usize, BenchFault<BodyFault>> {
     let alloc = rt.alloc();
     let mut held = Vec::new(alloc);
     let mut spans = 0usize;
     'each: for _round in 0..rounds {
         let copy = Bytes::copy_from_slice(alloc, body)?;
-        let prepared = prepare(rt, alloc, 0, section, copy, 1)?;
+        let prepared = prepare(rt, alloc, 0, section, copy, 1).map_err(of_refusal)?;
         spans = spans.saturating_add(prepared.parts().1.len());
         held.push(prepared)?;
     }

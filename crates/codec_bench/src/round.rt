@@ -5,10 +5,13 @@ ghost use Rattle.otlp_trace.specs.Data.{RequestData};
 ghost use Rattle.otlp_trace.specs.Text.{request_text};
 ghost use Rattle.otlp_trace.specs.View.{resource_spans_view, request_view};
 ghost use Rattle.otlp_read.specs.Value.{IsValue, IsFault};
-ghost use Rattle.codec_bench.specs.Round.{IsWrittenAgain, IsOfRound, spans_of, spans_of_resource, in_64_bits};
-ghost use Rattle.codec_bench.specs.declared.fault.BenchFault.TheVariants as fault;
+ghost use Rattle.bench_task.specs.declared.fault.BenchFault.TheVariants as fault;
+ghost use Rattle.codec_bench.specs.Faults.{IsOfRound};
+ghost use Rattle.codec_bench.specs.Round.{IsWrittenAgain, spans_of, spans_of_resource, in_64_bits};
+ghost use Rattle.codec_bench.specs.declared.fault.BodyFault.TheVariants as body_faults;
 
-use crate::fault::BenchFault;
+use crate::fault::{BodyFault, of_body};
+use bench_task::BenchFault;
 use otlp_read::{ReadFault, read_request};
 use otlp_trace::{ExportTraceServiceRequest, ResourceSpans, write_request};
 use std::alloc::Global;
@@ -35,7 +38,7 @@ fn resource_spans_len(resource: &ResourceSpans) -> usize
 }
 
 /// Reads a body and writes it, which has to give that body again, and counts its spans.
-pub(crate) fn checked_round(alloc: Global, body: &[u8]) -> Result<usize, BenchFault>
+pub(crate) fn checked_round(alloc: Global, body: &[u8]) -> Result<usize, BenchFault<BodyFault>>
     // The body has a value with so many spans, whose canonical text it is.
     ensures value { IfOk result (λ len. (v : RequestData) × IsWrittenAgain body.now v
         × (len ≡ in_64_bits (spans_of v))) }
@@ -45,18 +48,19 @@ pub(crate) fn checked_round(alloc: Global, body: &[u8]) -> Result<usize, BenchFa
         → MatchResult result (λ len. len ≡ in_64_bits (spans_of v)) (λ e. e ≡ fault.OutOfMemory) }
 
     // A fault stands in the body, or the canonical text of its value is another.
-    ensures faulty { (f : ReadFault) → IfErr result (λ e. e ≡ fault.Body f → IsFault body.now f) }
-    ensures differs { IfErr result (λ e. e ≡ fault.NotCanonical
+    ensures faulty { (f : ReadFault) → IfErr result (λ e.
+        e ≡ fault.Input (body_faults.Bad f) → IsFault body.now f) }
+    ensures differs { IfErr result (λ e. e ≡ fault.Input body_faults.NotCanonical
         → (v : RequestData) × IsValue body.now v × (request_text v ≢ body.now)) }
 
     // It is one of these, or memory ran out.
     ensures of_round { IfErr result IsOfRound }
 {
-    let request = read_request(alloc, body)?;
+    let request = read_request(alloc, body).map_err(of_body)?;
     let mut text = Vec::new(alloc);
     write_request(alloc, &mut text, &request)?;
     if text.as_slice() != body {
-        return Err(BenchFault::NotCanonical);
+        return Err(BenchFault::Input(BodyFault::NotCanonical));
     }
     Ok(spans_len(&request))
 }

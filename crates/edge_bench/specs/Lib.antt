@@ -1,2 +1,2 @@
-pub mod Status
+pub mod Faults
 pub mod Repeated

@@ -11,12 +11,8 @@ mod fault;
 mod measure;
 mod serving;
 
-ghost use Rattle.std.specs.Prelude.{◌≡◌};
-ghost use Rattle.std.specs.Process.{exit_status};
-ghost use Rattle.edge_bench.specs.Status.{end_status};
-
-use bench_task::{Task, asked_task};
-use fault::BenchFault;
+use bench_task::{BenchFault, Task, asked_task, ended};
+use fault::NotPosted;
 use measure::{check, measure};
 use std::process::ExitCode;
 use std::rt::{Clock, Env, Files};
@@ -26,28 +22,16 @@ use std::{env, fs};
 /// The stored message.
 const STORED: &str = "post.http";
 
-fn main(rt: HostRuntime) -> ExitCode {
-    ended(&rt, run(&rt))
-}
+/// What the program takes.
+const USAGE: &str = "usage: edge_bench [FILE ROUNDS]";
 
-/// The status with which the program ends. A fault is told on standard error.
-fn ended(rt: &impl Eprint, end: Result<(), BenchFault>) -> ExitCode
-    ensures { exit_status result ≡ end_status end }
-{
-    match end {
-        Ok(()) => ExitCode::SUCCESS,
-        Err(fault) => {
-            let status = fault.status();
-            // Where standard error can't be written, the status has to do.
-            let _ = rt.eprintln(fault);
-            ExitCode::from(status)
-        }
-    }
+fn main(rt: HostRuntime) -> ExitCode {
+    ended(&rt, USAGE, run(&rt))
 }
 
 fn run<R: Threads + Sync + Env + Files + Clock + Print + AllocGlobal>(
     rt: &R,
-) -> Result<(), BenchFault> {
+) -> Result<(), BenchFault<NotPosted>> {
     let mut args = Vec::new(rt.alloc());
     for arg in env::args(rt)?.skip(1) {
         args.push(arg)?;

@@ -3,9 +3,9 @@
 ghost use Rattle.std.specs.Prelude.{◌≡◌, IfOk};
 ghost use Rattle.edge_bench.specs.Repeated.{repeated};
 
-use crate::fault::BenchFault;
+use crate::fault::NotPosted;
 use crate::serving::Connection;
-use bench_task::per_second;
+use bench_task::{BenchFault, per_second};
 use httparse::Status;
 use httparse::spans::{EMPTY_HEADER_SPAN, parse_request};
 use std::alloc::{AllocError, Global};
@@ -20,12 +20,12 @@ const MAX_FIELDS: usize = 64;
 pub(crate) fn check<R: Threads + Sync + Print + AllocGlobal>(
     rt: &R,
     message: &[u8],
-) -> Result<(), BenchFault> {
+) -> Result<(), BenchFault<NotPosted>> {
     let input = repeated(rt.alloc(), message, 1)?;
     let mut connection = Connection::open(rt.alloc(), input)?;
     let served = connection.serve(rt)?;
     if served.posts != 1 {
-        return Err(BenchFault::NotPosted);
+        return Err(BenchFault::Input(NotPosted));
     }
     let bytes = message.len();
     let written = served.written;
@@ -39,14 +39,14 @@ pub(crate) fn measure<R: Threads + Sync + Clock + Print + AllocGlobal>(
     rt: &R,
     message: &[u8],
     rounds: u32,
-) -> Result<(), BenchFault> {
+) -> Result<(), BenchFault<NotPosted>> {
     let input = repeated(rt.alloc(), message, rounds)?;
     let mut connection = Connection::open(rt.alloc(), input)?;
     let start = Instant::now(rt)?;
     let served = connection.serve(rt)?;
     report(rt, "served", message.len(), rounds, start)?;
     if served.posts != u64::from(rounds) {
-        return Err(BenchFault::NotPosted);
+        return Err(BenchFault::Input(NotPosted));
     }
     let start = Instant::now(rt)?;
     let head = parsed(message, rounds)?;
@@ -65,13 +65,13 @@ fn repeated(alloc: Global, message: &[u8], rounds: u32) -> Result<Vec<u8>, Alloc
 }
 
 /// Parses the message's head so many times, and says how long it is.
-fn parsed(message: &[u8], rounds: u32) -> Result<usize, BenchFault> {
+fn parsed(message: &[u8], rounds: u32) -> Result<usize, BenchFault<NotPosted>> {
     let mut len = 0;
     'each: for _round in 0..rounds {
         let mut spans = [EMPTY_HEADER_SPAN; MAX_FIELDS];
         match parse_request(message, &mut spans) {
             Ok(Status::Complete(found)) => len = found.len,
-            Ok(Status::Partial) | Err(_) => return Err(BenchFault::NotPosted),
+            Ok(Status::Partial) | Err(_) => return Err(BenchFault::Input(NotPosted)),
         }
     }
     Ok(len)
@@ -84,7 +84,7 @@ fn report(
     bytes: usize,
     rounds: u32,
     start: Instant,
-) -> Result<(), BenchFault> {
+) -> Result<(), BenchFault<NotPosted>> {
     let nanos = start.elapsed(rt)?.as_nanos();
     let messages = per_second(1, rounds, nanos);
     let bytes = per_second(bytes, rounds, nanos);

@@ -1,7 +1,8 @@
 //! A connection in memory, and who answers what comes from it.
 ghost use Rattle.std.specs.Prelude.{ℕ};
 
-use crate::fault::BenchFault;
+use crate::fault::{NotPosted, of_edge, of_settings};
+use bench_task::BenchFault;
 use http_edge::{Allow, Handler, HttpMessage, MediaType, Reply, connection_buffer, serve};
 use http_line::MemoryLine;
 use otlp_front::{Route, route};
@@ -41,6 +42,13 @@ struct Front {
 impl Handler for Front {
     ghost answers = { λ _ _ _ _. Unit {0} };
 
+    fn reply_to_head(&self, head: &HttpMessage) -> Option<Reply> {
+        match route(&self.settings, head) {
+            Route::Post { .. } => None,
+            Route::Refuse(refusal) => Some(empty(self.alloc, refusal.status())),
+        }
+    }
+
     fn handle<T: Threads + Sync>(&mut self, _rt: &T, message: HttpMessage) -> Reply {
         match route(&self.settings, &message) {
             Route::Post { tenant: _ } => {
@@ -78,28 +86,32 @@ pub(crate) struct Connection {
 }
 
 impl Connection {
-    pub(crate) fn open(alloc: Global, input: Vec<u8>) -> Result<Connection, BenchFault> {
+    pub(crate) fn open(alloc: Global, input: Vec<u8>) -> Result<Connection, BenchFault<NotPosted>> {
         Ok(Connection {
             alloc,
             line: MemoryLine::new(input, Vec::new(alloc), Vec::new(alloc), 0),
             buffer: connection_buffer(alloc)?,
             front: Front {
                 alloc,
-                settings: load(alloc, settings_text(alloc)?.as_str())?,
+                settings: load(alloc, settings_text(alloc)?.as_str()).map_err(of_settings)?,
                 posts: 0,
             },
         })
     }
 
     /// Reads and answers to the end of the input.
-    pub(crate) fn serve<T: Threads + Sync>(&mut self, rt: &T) -> Result<Served, BenchFault> {
+    pub(crate) fn serve<T: Threads + Sync>(
+        &mut self,
+        rt: &T,
+    ) -> Result<Served, BenchFault<NotPosted>> {
         serve(
             rt,
             self.alloc,
             &mut self.line,
             &mut self.front,
             &mut self.buffer,
-        )?;
+        )
+        .map_err(of_edge)?;
         Ok(Served {
             posts: self.front.posts,
             written: self.line.output().len(),

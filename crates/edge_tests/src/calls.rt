@@ -1,8 +1,8 @@
 //! How often a line is called, of which no clause speaks.
 
-use crate::handlers::Lacking;
+use crate::handlers::{Heedless, Lacking};
 use export_edge::post_over;
-use http_edge::{connection_buffer, serve};
+use http_edge::{Handler, connection_buffer, serve};
 use http_line::{Line, MemoryLine};
 use std::alloc::{AllocError, Global};
 use std::test::Fail;
@@ -25,32 +25,37 @@ fn line_of(alloc: Global, message: Message, fuse: u64) -> Result<MemoryLine, All
 }
 
 /// Whether call number `fuse` is made while a message is answered.
-fn is_made<R: Threads + Sync>(
+fn is_made<R: Threads + Sync, H: Handler>(
     rt: &R,
     alloc: Global,
+    handler: &mut H,
     message: Message,
     fuse: u64,
 ) -> Result<bool, AllocError> {
     let mut line = line_of(alloc, message, fuse)?;
-    let mut handler = Lacking {
-        alloc,
-        asked: false,
-    };
     let mut buffer = connection_buffer(alloc)?;
-    let _ = serve(rt, alloc, &mut line, &mut handler, &mut buffer);
+    let _ = serve(rt, alloc, &mut line, handler, &mut buffer);
     Ok(line.failures() == 1)
 }
 
-/// Whether a message is answered by so many calls of its line.
+/// Whether a message is answered by so many calls of its line, be its body wanted or not.
 fn is_answered_by<R: Threads + Sync>(
     rt: &R,
     alloc: Global,
     message: Message,
     calls: u64,
 ) -> Result<bool, AllocError> {
+    let mut wants = Lacking {
+        alloc,
+        asked: false,
+    };
+    let mut heedless = Heedless { alloc, given: 0 };
+    let more = calls.saturating_add(1);
     Ok(
-        is_made(rt, alloc, message, calls)?
-            && !is_made(rt, alloc, message, calls.saturating_add(1))?,
+        is_made(rt, alloc, &mut wants, message, calls)?
+            && !is_made(rt, alloc, &mut wants, message, more)?
+            && is_made(rt, alloc, &mut heedless, message, calls)?
+            && !is_made(rt, alloc, &mut heedless, message, more)?,
     )
 }
 

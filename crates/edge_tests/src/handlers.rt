@@ -2,7 +2,7 @@
 ghost use Rattle.std.specs.Prelude.{ℕ};
 
 use http_edge::{Allow, Handler, HttpMessage, MediaType, Reply};
-use otlp_front::{Route, route};
+use otlp_front::{Route, RouteRefusal, route};
 use std::alloc::{AllocError, Global};
 use std::str;
 use std::thread::Threads;
@@ -14,6 +14,10 @@ pub struct Echo;
 
 impl Handler for Echo {
     ghost answers = { λ _ _ _ _. Unit {0} };
+
+    fn reply_to_head(&self, _head: &HttpMessage) -> Option<Reply> {
+        None
+    }
 
     fn handle<T: Threads + Sync>(&mut self, _rt: &T, message: HttpMessage) -> Reply {
         let HttpMessage { target, body, .. } = message;
@@ -37,7 +41,8 @@ fn status_of(target: &[u8]) -> u16 {
     text.parse().unwrap_or(200)
 }
 
-/// Says 200 of each message that is routed to a tenant, whatever its body is, and refuses the others.
+/// Says 200 of each message that is routed to a tenant, whatever its body is, and refuses the others, by their heads
+/// where it is asked of these.
 #[derive(Drop)]
 pub struct Front<'a> {
     pub alloc: Global,
@@ -46,6 +51,13 @@ pub struct Front<'a> {
 
 impl Handler for Front<'_> {
     ghost answers = { λ _ _ _ _. Unit {0} };
+
+    fn reply_to_head(&self, head: &HttpMessage) -> Option<Reply> {
+        match route(self.settings, head) {
+            Route::Post { .. } => None,
+            Route::Refuse(refusal) => refusal.reply(self.alloc).ok(),
+        }
+    }
 
     fn handle<T: Threads + Sync>(&mut self, _rt: &T, message: HttpMessage) -> Reply {
         match routed(self.alloc, self.settings, &message) {
@@ -77,6 +89,10 @@ pub struct Lacking {
 impl Handler for Lacking {
     ghost answers = { λ _ _ _ _. Unit {0} };
 
+    fn reply_to_head(&self, _head: &HttpMessage) -> Option<Reply> {
+        None
+    }
+
     fn handle<T: Threads + Sync>(&mut self, _rt: &T, _message: HttpMessage) -> Reply {
         self.asked = true;
         no_memory(self.alloc)
@@ -93,9 +109,35 @@ pub struct Measuring {
 impl Handler for Measuring {
     ghost answers = { λ _ _ _ _. Unit {0} };
 
+    fn reply_to_head(&self, _head: &HttpMessage) -> Option<Reply> {
+        None
+    }
+
     fn handle<T: Threads + Sync>(&mut self, _rt: &T, message: HttpMessage) -> Reply {
         self.spare = Some(message.body.capacity().saturating_sub(message.body.len()));
         no_memory(self.alloc)
+    }
+}
+
+/// Replies to each head that there is no such path, and counts the messages whose bodies it is given nevertheless.
+#[derive(Drop)]
+pub struct Heedless {
+    pub alloc: Global,
+    pub given: u32,
+}
+
+impl Handler for Heedless {
+    ghost answers = { λ _ _ _ _. Unit {0} };
+
+    fn reply_to_head(&self, _head: &HttpMessage) -> Option<Reply> {
+        RouteRefusal::NoSuchPath.reply(self.alloc).ok()
+    }
+
+    fn handle<T: Threads + Sync>(&mut self, _rt: &T, _message: HttpMessage) -> Reply {
+        self.given = self.given.saturating_add(1);
+        RouteRefusal::NoSuchPath
+            .reply(self.alloc)
+            .unwrap_or_else(|_| no_memory(self.alloc))
     }
 }
 

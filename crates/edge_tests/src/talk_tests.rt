@@ -1,7 +1,7 @@
 //! Talks and connections, in each way.
 
 use crate::connections::CONNECTIONS;
-use crate::handlers::{Echo, Front, Lacking, Measuring};
+use crate::handlers::{Echo, Front, Heedless, Lacking, Measuring};
 use crate::names::NAMES;
 use crate::notation::names_of;
 use crate::talks::{LONG_TALKS, TALKS};
@@ -144,6 +144,89 @@ fn bodies_have_no_room_that_they_leave_empty(rt: HostRuntime) -> Result<(), Fail
     let chunked = b"POST / HTTP/1.1\r\nHost: c\r\nTransfer-Encoding: chunked\r\n\r\n\
 3\r\nabc\r\n1\r\nd\r\n0\r\n\r\n";
     assert_eq!(rt; spare_room(&rt, rt.alloc(), chunked)?, Some(0));
+    Ok(())
+}
+
+/// What is told of the messages in an input whose heads settle their replies.
+#[derive(Clone, Copy, Debug, Drop, PartialEq, Eq)]
+struct Outcome {
+    /// How many of them the handler was given.
+    given: u32,
+    /// Whether the connection's buffer has as much room as before.
+    is_room_kept: bool,
+    /// How many replies say that there is no such path, and nothing else is written.
+    replies: Option<usize>,
+}
+
+const NO_SUCH_PATH: &[u8] = b"HTTP/1.1 404 Not Found\r\nContent-Type: application/x-protobuf\r\n\
+Content-Length: 14\r\n\r\n\x12\x0cno such path";
+
+/// How many times this text is the whole output.
+fn times(output: &[u8], text: &[u8]) -> Option<usize> {
+    let mut rest = output;
+    let mut count = 0usize;
+    for _ in 0..output.len() {
+        let Some(more) = rest.strip_prefix(text) else {
+            break;
+        };
+        rest = more;
+        count = count.saturating_add(1);
+    }
+    if rest.is_empty() { Some(count) } else { None }
+}
+
+/// Serves a message with so many bytes of a body between these texts.
+fn heeded<R: Threads + Sync>(
+    rt: &R,
+    alloc: Global,
+    head: &[u8],
+    body: usize,
+    tail: &[u8],
+) -> Result<Option<Outcome>, AllocError> {
+    let mut input = Vec::from_slice(alloc, head)?;
+    input.extend_from_slice(&vec![in alloc; b'a'; body]?)?;
+    input.extend_from_slice(tail)?;
+    let mut line = MemoryLine::new(input, Vec::new(alloc), Vec::new(alloc), 0);
+    let mut handler = Heedless { alloc, given: 0 };
+    let mut buffer = connection_buffer(alloc)?;
+    let room = buffer.capacity();
+    match serve(rt, alloc, &mut line, &mut handler, &mut buffer) {
+        Ok(()) => Ok(Some(Outcome {
+            given: handler.given,
+            is_room_kept: buffer.capacity() == room,
+            replies: times(line.output(), NO_SUCH_PATH),
+        })),
+        Err(_) => Ok(None),
+    }
+}
+
+/// Its handler isn't given it, and nothing of it stays in the buffer. The message behind it comes whole.
+#[test]
+fn a_body_that_is_not_wanted_is_let_go_of(rt: HostRuntime) -> Result<(), Fail> {
+    let next = b"GET / HTTP/1.1\r\nHost: c\r\n\r\n";
+    let head = b"POST / HTTP/1.1\r\nHost: c\r\nContent-Length: 1048576\r\n\r\n";
+    let want = Some(Outcome {
+        given: 1,
+        is_room_kept: true,
+        replies: Some(2),
+    });
+    assert_eq!(rt; heeded(&rt, rt.alloc(), head, 1_048_576, next)?, want);
+    let head = b"POST / HTTP/1.1\r\nHost: c\r\nTransfer-Encoding: chunked\r\n\r\n100000\r\n";
+    let tail = b"\r\n0\r\n\r\nGET / HTTP/1.1\r\nHost: c\r\n\r\n";
+    assert_eq!(rt; heeded(&rt, rt.alloc(), head, 1_048_576, tail)?, want);
+    Ok(())
+}
+
+/// There is nothing to let go of where a body came whole with its head.
+#[test]
+fn a_body_that_came_with_its_head_is_given(rt: HostRuntime) -> Result<(), Fail> {
+    let head = b"POST / HTTP/1.1\r\nHost: c\r\nContent-Length: 9\r\n\r\n";
+    let want = Some(Outcome {
+        given: 1,
+        is_room_kept: true,
+        replies: Some(1),
+    });
+    assert_eq!(rt; heeded(&rt, rt.alloc(), head, 9, b"")?, want);
     Ok(())
 }
 

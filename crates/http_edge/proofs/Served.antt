@@ -1,13 +1,14 @@
 -- Messages one after another, and where a talk ends.
-use Rattle.std.proofs.Common.{◌≡◌, ◌≢◌, ℕ, ◌≤◌, Bool, true, false, not, List, [], ◌∷◌, ◌++◌, length, drop, if◌then◌else◌, refl, sym, ap, subst, ◌∙◌, append_assoc, append-nil}
+use Rattle.std.proofs.Common.{◌≡◌, ◌≢◌, ℕ, ◌≤◌, Bool, true, false, not, List, [], ◌∷◌, ◌++◌, length, drop, if◌then◌else◌, Option, Some, None, is_some, is_none, refl, sym, ap, subst, ◌∙◌, append_assoc, append-nil}
 use Rattle.httparse.specs.Grammar.{RequestHead}
 use Rattle.http_edge.specs.declared.head.Head.{Head}
 use Rattle.http_edge.specs.declared.wire.EdgeFault.{EdgeFault}
 use Rattle.http_edge.specs.declared.wire.EdgeFault.TheVariants.{ReadFailed, OutOfMemory}
-use Rattle.http_edge.specs.Message.{Request, Response, Message, Frame, sized, chunked, HasBody, HasMessage, request_of, closes, expects, max_body}
+use Rattle.http_edge.specs.Message.{Request, Response, Message, Frame, sized, chunked, HasBody, HasMessage, request_of, with_body, closes, expects, max_body}
 use Rattle.http_edge.specs.Talk.{Exchange, exchange_text, interim_text, Asks, told, Runs, Talks, Due, Lacks, Begins, MayInterim, interim, replying, at_reply, breaking, lacking}
 use Rattle.http_edge.specs.Reply.{continue_text, is_for_no_memory, no_memory_text}
-use Rattle.http_edge.specs.Stages.{IsHead, frame_by, message_with, IsBrokenOff, IsShort, IsCut, IsOver, StaysOpen, Replies}
+use Rattle.http_edge.specs.Stages.{IsHead, IsHeadOf, IsMessageOf, kept_if, frame_by, message_with, IsBrokenOff, IsShort, IsCut, IsOver, StaysOpen, Replies}
+use Rattle.http_edge.specs.Seen.{seen}
 use Rattle.http_line.specs.Line.{Moves}
 use Rattle.http_line.proofs.Moved.{then_to}
 use Rattle.http_edge.proofs.Heads.{has_head_more}
@@ -117,6 +118,27 @@ whole_message {bytes} {head} {h} read body after p b short = record {
   body = b;
   size = short;
 }
+
+is_wanted : {A : Type 0} (settled : Option A) (wanted : Bool) → is_some settled ≡ not wanted → wanted ≡ is_none settled
+is_wanted None true e = refl
+is_wanted None false e = absurd (let f : false ≡ true = e in cc)
+is_wanted (Some x) true e = absurd (let f : true ≡ false = e in cc)
+is_wanted (Some x) false e = refl
+
+-- the message of whose body what is wanted was kept, where no reply was settled
+pub message_kept : {A : Type 0} {head : Head} {h : RequestHead} (settled : Option A) (wanted : Bool) (kept body : List ℕ)
+    → is_some settled ≡ not wanted → IsHeadOf head h → kept ≡ kept_if wanted body
+    → IsMessageOf head kept (is_none settled) (message_with h body)
+message_kept settled wanted kept body e says keeps = record {
+  says = says;
+  keeps = keeps ∙ ap (λ w. kept_if w body) (is_wanted settled wanted e);
+}
+
+-- what is asked for it
+pub request_is : {head : Head} {kept : List ℕ} {wanted : Bool} {m : Message} → IsMessageOf head kept wanted m
+    → with_body (seen head.message) m.body ≡ request_of m
+request_is {m = m} is =
+    λ i. record { method = is.says.method i; target = is.says.target i; headers = is.says.headers i; body = m.body }
 
 -- the same from an earlier moment, before these bytes were read
 pub goes_after : {H : Type 0} {answers : H → Request → Response → H

@@ -1,6 +1,6 @@
 -- What the private functions find at the front of the buffer, and how far they get. The messages are those of RFC 9112,
 -- as Message has them; the stages are this project's own.
-use Rattle.std.specs.Prelude.{◌≡◌, ◌≢◌, ℕ, ◌+◌, ◌<◌, ◌≤◌, ◌++◌, Bool, true, false, not, List, [], map, take, drop, length, Some, None, Option, ⊤}
+use Rattle.std.specs.Prelude.{◌≡◌, ◌≢◌, ℕ, ◌+◌, ◌<◌, ◌≤◌, ◌++◌, Bool, true, false, not, List, [], map, take, drop, length, Some, None, Option, if◌then◌else◌, ⊤}
 use Rattle.httparse.specs.Grammar.{RequestHead, HasNoRequest, MayBecomeRequest, print_request}
 use Rattle.httparse.specs.declared.Error.{Error}
 use Rattle.httparse.specs.declared.Error.TheVariants.{TooManyHeaders}
@@ -14,6 +14,7 @@ use Rattle.http_edge.specs.declared.head.BodyKind.{BodyKind}
 use Rattle.http_edge.specs.declared.head.BodyKind.TheVariants.{Sized, Chunks}
 use Rattle.http_edge.specs.declared.body.BodyRead.{BodyRead}
 use Rattle.http_edge.specs.declared.body.BodyRead.TheVariants as Read
+use Rattle.http_edge.specs.declared.body.ChunkedBody.{ChunkedBody}
 use Rattle.http_edge.specs.declared.body.Pieces.{Pieces}
 use Rattle.http_edge.specs.declared.body.Pieces.TheVariants as Piece
 use Rattle.http_edge.specs.declared.wire.EdgeFault.{EdgeFault}
@@ -56,9 +57,9 @@ message_with h body = record { head = h; body = body }
 
 -- the head of the code says what the head of the grammar says
 pub record IsHeadOf (head : Head) (h : RequestHead) : Type 0 where
-  pub method : head.method ≡ h.method
-  pub target : head.target.items ≡ h.target
-  pub headers : map header_of head.headers.items ≡ headers_of h
+  pub method : head.message.method ≡ h.method
+  pub target : head.message.target.items ≡ h.target
+  pub headers : map header_of head.message.headers.items ≡ headers_of h
   pub expects : head.expects ≡ expects h
   pub closes : head.closes ≡ closes h
   pub bodiless : head.bodiless ≡ is_bodiless h
@@ -77,6 +78,15 @@ IsHeadProgress bytes (Whole head) = (h : RequestHead) × IsHead bytes head h
 IsHeadProgress bytes More = HasNoRequest bytes × MayBecomeRequest bytes
 IsHeadProgress bytes TooMany = HasNoRequest bytes × MayBecomeRequest bytes × (max_fields + 1 < head_lines bytes)
 IsHeadProgress bytes (Refuse status bodiless) = RefusesHead bytes (refusal_text bodiless status)
+
+-- what is kept of a body: all of it where it is wanted, and nothing where it isn't
+abbrev pub kept_if : Bool → List ℕ → List ℕ
+kept_if wanted body = if wanted then body else []
+
+-- the message of this head, of whose body this was kept
+pub record IsMessageOf (head : Head) (kept : List ℕ) (wanted : Bool) (m : Message) : Type 0 where
+  pub says : IsHeadOf head m.head
+  pub keeps : kept ≡ kept_if wanted m.body
 
 -- how many bytes of data are still due
 abbrev pub bytes_due : PartCode → ℕ
@@ -126,20 +136,27 @@ IsPiece stream part body input Found.More =
 IsPiece stream part body input Found.Bad =
     (most : ℕ) → length body + bytes_due part ≤ most → StopsAt FailsAt most stream
 
--- what was found when the buffer had no more pieces, or wasn't looked at
-abbrev pub IsPieces : List ℕ → PartCode → List ℕ → List ℕ → Bool → Pieces → Type 0
-IsPieces stream part body rest looked Piece.End = HasBody chunked stream body rest
-IsPieces stream part body rest looked Piece.More =
-    IsAt stream part body rest × (looked ≡ true → LacksBody chunked stream)
-IsPieces stream part body rest looked Piece.Bad = IsBroken stream
-IsPieces stream part body rest looked Piece.TooLong = IsTooLong chunked stream
+-- this body has come so far
+pub record Gathers (body : List ℕ) (so_far : ChunkedBody) : Type 0 where
+  pub len : so_far.len ≡ length body
+  pub bytes : so_far.bytes.items ≡ kept_if so_far.wanted body
 
--- what came of the reading of a body
-abbrev pub IsRead : Frame → List ℕ → List ℕ → BodyRead → Type 0
-IsRead frame stream after (Read.Whole body) = HasBody frame stream body.items after × (length body.items ≤ max_body)
-IsRead frame stream after Read.TooLong = (frame ≡ chunked) × IsTooLong chunked stream
-IsRead frame stream after Read.Bad = (frame ≡ chunked) × IsBroken stream
-IsRead frame stream after Read.Ended = LacksBody frame stream
+-- what was found when the buffer had no more pieces, or wasn't looked at
+abbrev pub IsPieces : List ℕ → PartCode → ChunkedBody → List ℕ → Bool → Pieces → Type 0
+IsPieces stream part so_far rest looked Piece.End =
+    (body : List ℕ) × HasBody chunked stream body rest × Gathers body so_far
+IsPieces stream part so_far rest looked Piece.More =
+    (body : List ℕ) × IsAt stream part body rest × Gathers body so_far × (looked ≡ true → LacksBody chunked stream)
+IsPieces stream part so_far rest looked Piece.Bad = IsBroken stream
+IsPieces stream part so_far rest looked Piece.TooLong = IsTooLong chunked stream
+
+-- what came of the reading of a body, which was kept where it was wanted
+abbrev pub IsRead : Bool → Frame → List ℕ → List ℕ → BodyRead → Type 0
+IsRead wanted frame stream after (Read.Whole kept) = (body : List ℕ) × HasBody frame stream body after
+    × (length body ≤ max_body) × (kept.items ≡ kept_if wanted body)
+IsRead wanted frame stream after Read.TooLong = (frame ≡ chunked) × IsTooLong chunked stream
+IsRead wanted frame stream after Read.Bad = (frame ≡ chunked) × IsBroken stream
+IsRead wanted frame stream after Read.Ended = LacksBody frame stream
 
 -- the handler's answer and what is written of it
 pub record Replies {H : Type 0} (answers : H → Request → Response → H

@@ -4,7 +4,7 @@ ghost use Rattle.http_edge.specs.Message.{sized, chunked, max_body};
 ghost use Rattle.http_edge.specs.Limits.{first_room};
 ghost use Rattle.http_line.specs.Line.{Moves};
 ghost use Rattle.http_edge.specs.Steps.{work, HasFailed};
-ghost use Rattle.http_edge.specs.Stages.{frame_by, bytes_due, IsAt, IsPieces, IsRead};
+ghost use Rattle.http_edge.specs.Stages.{frame_by, bytes_due, Gathers, IsAt, IsPieces, IsRead};
 
 use crate::chunks::{ChunkedState, Piece, bytes_due, next_piece};
 use crate::head::BodyKind;
@@ -17,7 +17,7 @@ const MAX_BODY: usize = 20_971_520;
 /// Room for so many bytes of a body is made before they come, so that a head alone takes no more.
 const FIRST_ROOM: usize = 1_048_576;
 
-/// What came of a body.
+/// What came of a body. A whole one that wasn't wanted is empty.
 #[derive(Debug, Drop)]
 pub(crate) enum BodyRead {
     Whole(Vec<u8>),
@@ -35,7 +35,33 @@ pub(crate) enum Pieces {
     Bad,
 }
 
-/// Reads the body that begins after so many bytes of the buffer, and takes it and them from there.
+/// A body in chunks as far as it has come: how many bytes, and these, where they are wanted.
+#[derive(Drop)]
+pub(crate) struct ChunkedBody {
+    pub wanted: bool,
+    pub len: usize,
+    pub bytes: Vec<u8>,
+}
+
+impl ChunkedBody {
+    /// Takes one piece more.
+    fn add(&mut self, piece: &[u8]) -> Result<(), AllocError>
+        requires { self.old.len + length piece.now ≤ max_body }
+        ensures gathers { OnOk result ((body : List ℕ) → Gathers body self.old
+            → Gathers (body ++ piece.now) self.new) }
+        ensures len { OnOk result (self.new.len ≡ self.old.len + length piece.now) }
+        ensures wanted { OnOk result (self.new.wanted ≡ self.old.wanted) }
+    {
+        if self.wanted {
+            self.bytes.extend_from_slice(piece)?;
+        }
+        self.len += piece.len();
+        Ok(())
+    }
+}
+
+/// Reads the body that begins after so many bytes of the buffer, and takes it and them from there. One that isn't
+/// wanted is let go of as it comes.
 pub(crate) fn read_body<L: Line>(
     alloc: Global,
     line: &mut L,
@@ -43,12 +69,14 @@ pub(crate) fn read_body<L: Line>(
     buffer: &mut Vec<u8>,
     from: usize,
     kind: BodyKind,
+    wanted: bool,
 ) -> Result<BodyRead, EdgeFault>
     requires within { from ≤ length buffer.old.items }
     requires fits { (n : ℕ) → frame_by kind ≡ sized n → n ≤ max_body }
     ensures on_success { IfOk result (λ found. (read : List ℕ)
         × Moves L.gives L.takes line.old line.new read []
-        × IsRead (frame_by kind) (drop from buffer.old.items ++ read) buffer.new.items found) }
+        × IsRead wanted (frame_by kind) (drop from buffer.old.items ++ read) buffer.new.items
+        found) }
     ensures on_error { OnErr result ((read : List ℕ)
         × Moves L.gives L.takes line.old line.new read []) }
     ensures end { result ≡ Ok BodyRead.Ended → L.ends line.old < L.ends line.new }
@@ -62,13 +90,16 @@ pub(crate) fn read_body<L: Line>(
     ensures no_write { result ≢ Err EdgeFault.WriteFailed }
 {
     match kind {
-        BodyKind::Sized(len) => {
+        BodyKind::Sized(len) => if wanted {
             let body = read_sized(alloc, line, room, buffer, from, len as usize)?;
             Ok(body)
-        }
+        } else {
+            let body = skip_sized(alloc, line, room, buffer, from, len as usize)?;
+            Ok(body)
+        },
         BodyKind::Chunks => {
             drop_front(buffer, from);
-            let body = read_chunks(alloc, line, room, buffer)?;
+            let body = read_chunks(alloc, line, room, buffer, wanted)?;
             Ok(body)
         }
     }
@@ -87,7 +118,7 @@ fn read_sized<L: Line>(
     requires fits { len ≤ max_body }
     ensures on_success { IfOk result (λ found. (read : List ℕ)
         × Moves L.gives L.takes line.old line.new read []
-        × IsRead (sized len) (drop from buffer.old.items ++ read) buffer.new.items found) }
+        × IsRead true (sized len) (drop from buffer.old.items ++ read) buffer.new.items found) }
     ensures on_error { OnErr result ((read : List ℕ)
         × Moves L.gives L.takes line.old line.new read []) }
     ensures end { result ≡ Ok BodyRead.Ended → L.ends line.old < L.ends line.new }
@@ -157,16 +188,57 @@ fn next_stage(come: usize, len: usize) -> usize
     }
 }
 
-/// Reads a chunked body with its trailer.
+/// Reads a body of so many bytes, which isn't wanted, and lets go of them as they come.
+fn skip_sized<L: Line>(
+    alloc: Global,
+    line: &mut L,
+    room: &mut Room,
+    buffer: &mut Vec<u8>,
+    from: usize,
+    len: usize,
+) -> Result<BodyRead, EdgeFault>
+    requires within { from ≤ length buffer.old.items }
+    requires fits { len ≤ max_body }
+    ensures on_success { IfOk result (λ found. (read : List ℕ)
+        × Moves L.gives L.takes line.old line.new read []
+        × IsRead false (sized len) (drop from buffer.old.items ++ read) buffer.new.items found) }
+    ensures on_error { OnErr result ((read : List ℕ)
+        × Moves L.gives L.takes line.old line.new read []) }
+    ensures end { result ≡ Ok BodyRead.Ended → L.ends line.old < L.ends line.new }
+    ensures work { OnOk result (work (L.reads_left line.new) buffer.new.items + from ≤ work
+        (L.reads_left line.old) buffer.old.items) }
+    ensures ends { L.ends line.old ≤ L.ends line.new }
+    ensures kept { OnOk result (L.failed line.new ≡ L.failed line.old) }
+    ensures unfailed { result ≡ Err EdgeFault.OutOfMemory → L.failed line.new ≡ L.failed line.old }
+    ensures failed { result ≡ Err EdgeFault.ReadFailed
+        → HasFailed (L.failed line.old) (L.failed line.new) }
+    ensures no_write { result ≢ Err EdgeFault.WriteFailed }
+{
+    let come = len.min(buffer.len() - from);
+    drop_front(buffer, from + come);
+    let mut left = len - come;
+    'reads: while left > 0 {
+        let most = left.min(room.len());
+        if !fill(line, buffer, &mut room[..most])? {
+            return Ok(BodyRead::Ended);
+        }
+        left -= buffer.len();
+        buffer.clear();
+    }
+    Ok(BodyRead::Whole(Vec::new(alloc)))
+}
+
+/// Reads a chunked body with its trailer. One that isn't wanted is let go of as it comes.
 fn read_chunks<L: Line>(
     alloc: Global,
     line: &mut L,
     room: &mut Room,
     buffer: &mut Vec<u8>,
+    wanted: bool,
 ) -> Result<BodyRead, EdgeFault>
     ensures on_success { IfOk result (λ found. (read : List ℕ)
         × Moves L.gives L.takes line.old line.new read []
-        × IsRead chunked (buffer.old.items ++ read) buffer.new.items found) }
+        × IsRead wanted chunked (buffer.old.items ++ read) buffer.new.items found) }
     ensures on_error { OnErr result ((read : List ℕ)
         × Moves L.gives L.takes line.old line.new read []) }
     ensures end { result ≡ Ok BodyRead.Ended → L.ends line.old < L.ends line.new }
@@ -180,7 +252,11 @@ fn read_chunks<L: Line>(
     ensures no_write { result ≢ Err EdgeFault.WriteFailed }
 {
     let mut part = ChunkedState::Line;
-    let mut body = Vec::new(alloc);
+    let mut body = ChunkedBody {
+        wanted,
+        len: 0,
+        bytes: Vec::new(alloc),
+    };
     let mut watch = Watch::within_body();
     let mut ended = false;
     'reads: loop {
@@ -190,8 +266,8 @@ fn read_chunks<L: Line>(
         match pieces {
             Pieces::End => {
                 // Who keeps it keeps all its room.
-                body.shrink_to_fit();
-                return Ok(BodyRead::Whole(body));
+                body.bytes.shrink_to_fit();
+                return Ok(BodyRead::Whole(body.bytes));
             }
             Pieces::TooLong => return Ok(BodyRead::TooLong),
             Pieces::Bad => return Ok(BodyRead::Bad),
@@ -210,15 +286,16 @@ fn read_chunks<L: Line>(
 fn take_pieces(
     bytes: &[u8],
     part: &mut ChunkedState,
-    body: &mut Vec<u8>,
+    body: &mut ChunkedBody,
     due: bool,
 ) -> Result<(usize, Pieces), AllocError>
-    requires { length body.old.items + bytes_due part.old ≤ max_body }
+    requires { body.old.len + bytes_due part.old ≤ max_body }
     ensures within { IfOk result (λ r. r.0 ≤ length bytes.now) }
-    ensures fits { OnOk result (length body.new.items + bytes_due part.new ≤ max_body) }
-    ensures pieces { IfOk result (λ r. (stream : List ℕ)
-        → IsAt stream part.old body.old.items bytes.now
-        → IsPieces stream part.new body.new.items (drop r.0 bytes.now) due r.1) }
+    ensures fits { OnOk result (body.new.len + bytes_due part.new ≤ max_body) }
+    ensures wanted { OnOk result (body.new.wanted ≡ body.old.wanted) }
+    ensures pieces { IfOk result (λ r. (stream come : List ℕ)
+        → IsAt stream part.old come bytes.now → Gathers come body.old
+        → IsPieces stream part.new body.new (drop r.0 bytes.now) due r.1) }
 {
     if !due {
         return Ok((0, Pieces::More));
@@ -228,14 +305,14 @@ fn take_pieces(
         let rest = &bytes[at..];
         match next_piece(*part, rest) {
             Piece::Passed { len, next } => {
-                if bytes_due(next) > (MAX_BODY - body.len()) as u64 {
+                if bytes_due(next) > (MAX_BODY - body.len) as u64 {
                     return Ok((at, Pieces::TooLong));
                 }
                 *part = next;
                 at += len;
             }
             Piece::Data { len, left } => {
-                body.extend_from_slice(&rest[..len])?;
+                body.add(&rest[..len])?;
                 *part = ChunkedState::Bytes(left);
                 at += len;
             }

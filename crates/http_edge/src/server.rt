@@ -1,18 +1,18 @@
 //! The loop over messages.
-ghost use Rattle.std.specs.Prelude.{◌≡◌, ◌≢◌, ℕ, ◌+◌, ◌<◌, ◌≤◌, Bool, List, [], ◌++◌, length, map, if◌then◌else◌, IfOk, IfErr, IfSome, OnOk, OnErr, Some, None, true, false, Ok, Err, vec_capacity};
+ghost use Rattle.std.specs.Prelude.{◌≡◌, ◌≢◌, ℕ, ◌+◌, ◌<◌, ◌≤◌, Bool, List, [], ◌++◌, length, map, if◌then◌else◌, IfOk, IfErr, IfSome, OnOk, OnErr, Some, None, true, false, Ok, Err, vec_capacity, is_none};
 ghost use Rattle.httparse.specs.Grammar.{RequestHead};
 ghost use Rattle.http_edge.specs.Talk.{Talk, Talks, Begins, Lacks, head_lines};
 ghost use Rattle.http_edge.specs.Reply.{refusal_text, reply_text, continue_text, is_for_no_memory};
-ghost use Rattle.http_edge.specs.Message.{closes, max_fields, max_head};
+ghost use Rattle.http_edge.specs.Message.{Message, Settles, closes, max_fields, max_head, with_body};
 ghost use Rattle.http_edge.specs.Limits.{part_room};
 ghost use Rattle.http_line.specs.Line.{Moves};
 ghost use Rattle.http_edge.specs.Steps.{work, HasFailed};
-ghost use Rattle.http_edge.specs.Seen.{seen, header_of, response_of};
-ghost use Rattle.http_edge.specs.Stages.{IsHeadProgress, IsHeadOf, message_with, Replies, StaysOpen, IsOver, IsCut, RepliesWhole, RepliesUnwritten, BreaksOff};
+ghost use Rattle.http_edge.specs.Seen.{seen, response_of};
+ghost use Rattle.http_edge.specs.Stages.{IsHeadProgress, IsMessageOf, kept_if, Replies, StaysOpen, IsOver, IsCut, RepliesWhole, RepliesUnwritten, BreaksOff};
 ghost use Rattle.http_edge.specs.declared.wire.EdgeFault.TheVariants.{OutOfMemory};
 
 use crate::body::{BodyRead, read_body};
-use crate::head::{Head, HeadProgress, head_at};
+use crate::head::{BodyKind, Head, HeadProgress, head_at};
 use crate::message::{Allow, Handler, HttpMessage, MediaType, Reply};
 use crate::reply::{is_for_no_memory, no_memory_bytes, plain_bytes, refusal_body};
 use crate::wire::{EdgeFault, READ_AT_MOST, Room, Watch, fill, send};
@@ -275,7 +275,16 @@ fn serve_message<T: Threads + Sync, L: Line, H: Handler>(
         → HasFailed (L.failed line.old) (L.failed line.new) }
 {
     interim(line, head.expects)?;
-    match read_body(alloc, line, room, buffer, head.len, head.kind)? {
+    let settled = reply_to_head(handler, &head, buffer);
+    match read_body(
+        alloc,
+        line,
+        room,
+        buffer,
+        head.len,
+        head.kind,
+        settled.is_none(),
+    )? {
         BodyRead::Ended => Ok(false),
         BodyRead::TooLong => {
             refuse(alloc, line, 413, head.bodiless)?;
@@ -286,9 +295,29 @@ fn serve_message<T: Threads + Sync, L: Line, H: Handler>(
             Ok(false)
         }
         BodyRead::Whole(body) => {
-            let goes = handle_message(rt, alloc, line, handler, head, body)?;
+            let goes = handle_message(rt, alloc, line, handler, head, body, settled)?;
             Ok(goes)
         }
+    }
+}
+
+/// The reply that the head settles. A handler isn't asked where the whole body stands behind the head in the buffer:
+/// there is nothing to spare.
+fn reply_to_head<H: Handler>(handler: &H, head: &Head, buffer: &[u8]) -> Option<Reply>
+    ensures { IfSome result (λ reply. Settles H.answers handler.now (seen head.now.message)
+        (response_of reply)) }
+{
+    if has_come(head.kind, buffer.len().saturating_sub(head.len)) {
+        return None;
+    }
+    handler.reply_to_head(&head.message)
+}
+
+/// Whether so many bytes are all of a body of this kind.
+fn has_come(kind: BodyKind, count: usize) -> bool {
+    match kind {
+        BodyKind::Sized(len) => len <= count as u64,
+        BodyKind::Chunks => false,
     }
 }
 
@@ -316,25 +345,30 @@ fn interim<L: Line>(line: &mut L, due: bool) -> Result<(), EdgeFault>
     send(line, text)
 }
 
-/// Answers a message.
+/// Answers the message of a head and of what was kept of its body: by the reply that the head settled, or as the
+/// handler does.
 fn handle_message<T: Threads + Sync, L: Line, H: Handler>(
     rt: &T,
     alloc: Global,
     line: &mut L,
     handler: &mut H,
     head: Head,
-    body: Vec<u8>,
+    kept: Vec<u8>,
+    settled: Option<Reply>,
 ) -> Result<bool, EdgeFault>
-    ensures on_success { IfOk result (λ goes. (h : RequestHead) → IsHeadOf head h
-        → RepliesWhole H.answers handler.old handler.new L.gives L.takes line.old line.new
-        (message_with h body.items) goes) }
-    ensures on_error { OnErr result ((h : RequestHead) → IsHeadOf head h → (text : List ℕ)
+    requires { IfSome settled (λ reply. Settles H.answers handler.old (seen head.message)
+        (response_of reply)) }
+    ensures on_success { IfOk result (λ goes. (m : Message)
+        → IsMessageOf head kept.items (is_none settled) m
+        → RepliesWhole H.answers handler.old handler.new L.gives L.takes line.old line.new m
+        goes) }
+    ensures on_error { OnErr result ((m : Message)
+        → IsMessageOf head kept.items (is_none settled) m → (text : List ℕ)
         × Moves L.gives L.takes line.old line.new [] text
-        × (missing : List ℕ)
-        × Replies H.answers handler.old handler.new (message_with h body.items) text missing) }
-    ensures short { result ≡ Err OutOfMemory → (h : RequestHead) → IsHeadOf head h
-        → RepliesUnwritten H.answers handler.old handler.new L.gives L.takes line.old line.new
-        (message_with h body.items) }
+        × (missing : List ℕ) × Replies H.answers handler.old handler.new m text missing) }
+    ensures short { result ≡ Err OutOfMemory → (m : Message)
+        → IsMessageOf head kept.items (is_none settled) m
+        → RepliesUnwritten H.answers handler.old handler.new L.gives L.takes line.old line.new m }
     ensures end { L.ends line.new ≡ L.ends line.old }
     ensures reads { L.reads_left line.new ≡ L.reads_left line.old }
     ensures kept { OnOk result (L.failed line.new ≡ L.failed line.old) }
@@ -345,10 +379,27 @@ fn handle_message<T: Threads + Sync, L: Line, H: Handler>(
 {
     let closes = head.closes;
     let bodiless = head.bodiless;
-    let message = message_of(head, body);
-    let reply = handler.handle(rt, message);
+    let reply = reply_to(rt, handler, message_of(head, kept), settled);
     write_reply(alloc, line, &reply, closes, bodiless)?;
     Ok(!closes)
+}
+
+/// The reply to a message of whose body this was kept: the one that its head settled, or the handler's.
+fn reply_to<T: Threads + Sync, H: Handler>(
+    rt: &T,
+    handler: &mut H,
+    message: HttpMessage,
+    settled: Option<Reply>,
+) -> Reply
+    requires { IfSome settled (λ reply. Settles H.answers handler.old (seen message)
+        (response_of reply)) }
+    ensures { (body : List ℕ) → message.body.items ≡ kept_if (is_none settled) body
+        → H.answers handler.old (with_body (seen message) body) (response_of result) handler.new }
+{
+    match settled {
+        Some(reply) => reply,
+        None => handler.handle(rt, message),
+    }
 }
 
 /// Writes a reply.
@@ -384,19 +435,15 @@ fn write_reply<L: Line>(
 
 /// The message of a head and a body.
 fn message_of(head: Head, body: Vec<u8>) -> HttpMessage
-    ensures { seen result ≡ record {
-      method = head.method;
-      target = head.target.items;
-      headers = map header_of head.headers.items;
-      body = body.items;
-    } }
+    ensures { seen result ≡ with_body (seen head.message) body.items }
 {
-    let Head {
+    let Head { message, .. } = head;
+    let HttpMessage {
         method,
         target,
         headers,
         ..
-    } = head;
+    } = message;
     HttpMessage {
         method,
         target,

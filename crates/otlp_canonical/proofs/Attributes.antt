@@ -1,5 +1,5 @@
 -- An attribute is read as the same with its value's length written anew, and so is the message that it is in.
-use Rattle.std.proofs.Common.{◌≡◌, ◌==◌, ℕ, true, false, ◌-◌, ◌<◌, ◌^◌, List, [], ◌++◌, length, Some, Result, Ok, refl, sym, ap, subst, ◌∙◌, append-nil, append_assoc, arith}
+use Rattle.std.proofs.Common.{◌≡◌, ◌==◌, ℕ, true, false, ◌-◌, ◌<◌, ◌^◌, List, [], ◌++◌, length, Some, Result, Ok, sym, ap, subst, ◌∙◌, append-nil, append_assoc, arith}
 use Rattle.std.proofs.lemmas.Bool.{eqb-true}
 use Rattle.pb_wire.specs.declared.field.WireType.TheVariants as types
 use Rattle.pb_wire.specs.Grammar.{Entry, Bytes, IsField}
@@ -12,7 +12,7 @@ use Rattle.otlp_trace.specs.Text.{bytes_field}
 use Rattle.otlp_read.specs.declared.fault.ReadFault.{ReadFault}
 use Rattle.otlp_read.specs.AnyValue.{no_key_value, key_value_step}
 use Rattle.otlp_read.specs.Value.{span_step, status_step, event_step, link_step}
-use Rattle.otlp_read.specs.Walk.{◌>>=◌, Step, before, numbered, walk, read_with, with_another}
+use Rattle.otlp_read.specs.Walk.{◌>>=◌, before, numbered, walk, read_with, with_another}
 use Rattle.otlp_read.proofs.Opened.{opened}
 use Rattle.otlp_read.proofs.Walks.{bind_same, before_rest}
 use Rattle.otlp_canonical.specs.Attribute.{ValueLast, AttributeLaws}

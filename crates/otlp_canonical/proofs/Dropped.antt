@@ -8,7 +8,7 @@ use Rattle.otlp_read.specs.Walk.{◌>>=◌, Step, before, onward, walk, read_wit
 use Rattle.otlp_read.proofs.Laws.{begins_at}
 use Rattle.otlp_read.proofs.Opened.{opened}
 use Rattle.otlp_read.proofs.Walks.{walk_step, before_rest}
-use Rattle.otlp_canonical.specs.Inner.{DefaultLaws}
+use Rattle.otlp_canonical.specs.Inner.{DefaultLaws, TurnedFields}
 
 -- What a reader makes of what was copied and what goes on behind it is what it makes of the whole text: both come to the
 -- same state, in which the fields of greater numbers are at their defaults.
@@ -100,7 +100,34 @@ module _ {A : Type 0} (step : ℕ → Step A) (none : A) (default : Entry → Bo
   walked_same text copy from left most p =
       p.whole ∙ sym (p.copied left) ∙ ap (walk (step inner) d none) (append_assoc copy p.skipped left ∙ ap (λ (t : List ℕ). copy ++ t) (sym p.parts))
 
+  -- two fields the other way round
+  two_walked : (s : A) (first second rest : List ℕ) (one other : Entry) → IsField d first one → IsField d second other
+      → walk (step inner) d s (first ++ (second ++ rest)) ≡ ((step inner s one first >>= λ a. step inner a other second) >>= λ t. walk (step inner) d t rest)
+  two_walked s first second rest one other is_one is_other =
+      front_walked (step inner) d s first (second ++ rest) one is_one ∙ state_walked (step inner s one first) second rest other is_other
+
+  pub turned_dropped : (text first second rest : List ℕ) → TurnedFields step none d text first second rest → Dropped (step inner) none Above d text (second ++ first) rest rest 2
+  turned_dropped text first second rest t = record {
+    skipped = [];
+    parts = refl;
+    state = step inner none t.one first >>= λ a. step inner a t.other second;
+    copied = λ others.
+        ap (λ (front : List ℕ). walk (step inner) d none (front ++ others)) (append-nil (second ++ first)) ∙ ap (walk (step inner) d none) (append_assoc second first others)
+        ∙ two_walked none second first others t.other t.one t.follows t.begins ∙ ap (λ (r : Result A ReadFault). r >>= λ s. walk (step inner) d s others) (sym (t.same inner));
+    whole = ap (walk (step inner) d none) t.parts ∙ two_walked none first second rest t.one t.other t.begins t.follows;
+    defaults = state_leaves (step inner none t.one first) 2 2 t.other second (omega arith) t.other_low (state_leaves (Ok none) 0 2 t.one first (omega arith) t.one_low laws.first);
+  }
+
 module _ {A : Type 0} (step : ℕ → Step A) (none : A) (default : Entry → Bool) (Above : ℕ → A → Type 0) (laws : DefaultLaws step none default Above) (room : ℕ) (text old : List ℕ) where
+  -- two fields the other way round, one put behind the other
+  pub going_turned : (one copy first second rest : List ℕ) → one ≡ old ++ second → copy ≡ one ++ first → TurnedFields step none (101 - room) text first second rest → Going step none Above room text old copy rest rest 2
+  going_turned one copy first second rest is behind t = record {
+    within = omega arith;
+    put = second ++ first;
+    is = behind ∙ ap (λ (t : List ℕ). t ++ first) is ∙ append_assoc old second first;
+    so_far = turned_dropped step none default Above laws (room - 1) (101 - room) text first second rest t;
+  }
+
   pub going_none : Going step none Above room text old old text text 0
   going_none = record { within = omega arith; put = []; is = sym (append-nil old); so_far = none_dropped step none default Above laws (room - 1) (101 - room) text }
 

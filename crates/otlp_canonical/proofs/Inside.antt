@@ -2,15 +2,17 @@
 use Rattle.std.proofs.Common.{◌≡◌, ℕ, Bool, true, ◌+◌, ◌-◌, ◌<◌, ◌^◌, List, [], ◌++◌, length, None, Some, Result, Ok, sym, ap, ◌∙◌, append-nil, append_assoc, length-append, arith}
 use Rattle.pb_wire.specs.declared.field.WireType.TheVariants as types
 use Rattle.pb_wire.specs.Grammar.{Entry, Bytes, IsField}
+use Rattle.pb_wire.specs.Reading.{next_at}
 use Rattle.pb_wire.specs.Text.{varint_text, tag_text}
 use Rattle.pb_wire.proofs.Written.{field_written}
-use Rattle.otlp_trace.specs.Data.{SpanData, EventData, LinkData, StatusData}
+use Rattle.otlp_trace.specs.Data.{EventData, LinkData, StatusData}
 use Rattle.otlp_trace.specs.Defaults.{no_event, no_link, no_status}
 use Rattle.otlp_trace.specs.Text.{bytes_field}
 use Rattle.otlp_read.specs.declared.fault.ReadFault.{ReadFault}
 use Rattle.otlp_read.specs.AnyValue.{no_key_value, key_value_step}
 use Rattle.otlp_read.specs.Value.{span_step, event_step, link_step, status_step}
 use Rattle.otlp_read.specs.Walk.{◌>>=◌, Step, walk, with_another}
+use Rattle.otlp_read.proofs.Laws.{begins_at}
 use Rattle.otlp_canonical.specs.Attribute.{AttributeLaws}
 use Rattle.otlp_canonical.specs.Defaults.{DefaultsAbove}
 use Rattle.otlp_canonical.specs.Inner.{DefaultLaws, ReadAlike, FieldAlike, PutFor}
@@ -19,6 +21,11 @@ use Rattle.otlp_canonical.proofs.Dropped.{front_walked, default_alike}
 -- a field that holds these bytes
 abbrev pub holding : ℕ → List ℕ → Entry
 holding n bs = record { number = n; value = Bytes bs }
+
+-- it is found at the front, as it is written
+pub held_found : (d n : ℕ) (text bs rest : List ℕ) → 0 < n → n < 2 ^ 29 → length bs < 2 ^ 64 → text ≡ bytes_field n bs ++ rest → next_at d text ≡ Ok (Some (holding n bs, rest))
+held_found d n text bs rest some fits short is =
+    ap (next_at d) is ∙ begins_at d (bytes_field n bs) rest (holding n bs) (field_written d (holding n bs) some fits short)
 
 -- where the field makes of each message what one with other bytes makes, that can be put in its place
 put_field : {A : Type 0} (step : ℕ → Step A) (Above : ℕ → A → Type 0) (inner d most n : ℕ) (bs put old new : List ℕ) → 0 < n → n < 2 ^ 29 → length put < 2 ^ 64 → new ≡ old ++ bytes_field n put

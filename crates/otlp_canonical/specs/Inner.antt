@@ -1,7 +1,7 @@
 -- Messages inside a span whose fields of one value may be written at their default (the proto3 language guide, "Default
 -- Field Values", over the fields of `Status`, `Span.Event` and `Span.Link` of OTLP 1.x's trace.proto).
 use Rattle.std.specs.Prelude.{◌≡◌, ◌==◌, ◌&&◌, ◌||◌, ◌<◌, ◌≤◌, ◌^◌, ℕ, pos, Bool, true, false, List, [], ◌++◌, length, Ok, IfOk}
-use Rattle.pb_wire.specs.Grammar.{Datum, Varint, Eight, Bytes, Four, Entry}
+use Rattle.pb_wire.specs.Grammar.{Datum, Varint, Eight, Bytes, Four, Entry, IsField}
 use Rattle.otlp_trace.specs.Data.{StatusData, EventData, LinkData}
 use Rattle.otlp_trace.specs.Text.{bytes_field}
 use Rattle.otlp_read.specs.Numbers.{fixed32, fixed64}
@@ -82,6 +82,20 @@ pub record FieldAlike {A : Type 0} (step : ℕ → Step A) (none : A) (room numb
   pub copied : new ≡ old ++ bytes_field number put
   pub short : length put < 2 ^ 64
   pub same : read_with step room none text ≡ read_with step room none put
+
+-- The text begins with two fields of numbers up to 2, which make of a message of no fields what they make of it the
+-- other way round.
+pub record TurnedFields {A : Type 0} (step : ℕ → Step A) (none : A) (d : ℕ)
+    (text first second rest : List ℕ) : Type 0 where
+  pub one : Entry
+  pub other : Entry
+  pub parts : text ≡ first ++ (second ++ rest)
+  pub begins : IsField d first one
+  pub follows : IsField d second other
+  pub one_low : one.number ≤ 2
+  pub other_low : other.number ≤ 2
+  pub same : (room : ℕ) → (step room none one first >>= λ a. step room a other second)
+      ≡ (step room none other second >>= λ a. step room a one first)
 
 -- Behind what stood there, a text that makes of a message what the field makes of it, if the fields of numbers above
 -- this one are at their defaults.

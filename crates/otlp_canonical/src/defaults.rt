@@ -2,7 +2,7 @@
 //! Buffers encoding allows that, and some clients do it: for fields that they always have in hand, such as the parent
 //! of a span that has none, and for messages that they write before they know how long these are.
 
-ghost use Rattle.std.specs.Prelude.{◌≡◌, ℕ, true, IfOk, IfSome};
+ghost use Rattle.std.specs.Prelude.{◌≡◌, ◌<◌, ℕ, true, IfOk, IfSome};
 ghost use Rattle.pb_wire.specs.Grammar.{entry};
 ghost use Rattle.otlp_canonical.specs.Canonical.{CanonicalCopy};
 ghost use Rattle.otlp_canonical.specs.Defaults.{DefaultsAbove, holds_default};
@@ -12,11 +12,16 @@ ghost use Rattle.otlp_read.specs.Value.{span_step};
 ghost use Rattle.otlp_read.specs.Walk.{read_with};
 
 use crate::attribute::{field_size, put_attribute};
+use crate::field::short_field;
 use crate::inner::{put_message, spare_size};
 use crate::text::is_span_text;
-use otlp_trace::{Event, Link, Status};
+use crate::unknown::Keeping;
+use otlp_trace::{Event, Link, Span, Status};
 use pb_wire::{Field, Value, next_field};
 use std::alloc::{AllocError, Global};
+
+/// The number of a span's flags, the greatest of a field that it knows.
+const FLAGS: u32 = 16;
 
 /// Whether a span's field of one value holds its default.
 fn is_default(field: Field<'_>) -> bool
@@ -77,8 +82,9 @@ fn put_inside(
     Ok(whole)
 }
 
-/// Appends what a span's field is without its default or those in the message that it holds, likewise. Tells whether it
-/// did: a default may take back what came before it, and behind a greater number no message is canonical.
+/// Appends what a span's field is without its default, or without so many bytes of the message that it holds, behind
+/// fields of numbers up to `most`. Tells whether it did: a default may take back what came before it, and behind a
+/// greater number no message is canonical.
 fn put_bare(
     copy: &mut Vec<u8>,
     field: Field<'_>,
@@ -99,26 +105,42 @@ fn put_bare(
     put_inside(copy, field, spare, most, room)
 }
 
+/// Whether the field stands behind the flags, where numbers up to `most` were met, and has its place before them.
+fn is_late(field: Field<'_>, most: u32) -> bool {
+    most == FLAGS && field.number < FLAGS && Span::knows(field)
+}
+
 /// The text without the defaults that stand in it, and with short lengths, or none where it is so already, or where a
-/// default stands behind a field of its own number or a greater one: it may take back what came before.
+/// default stands behind a field of its own number or a greater one: it may take back what came before. None as well
+/// where what is left can't be canonical, because it isn't fields, or because its flags stand before others.
 fn dropped(alloc: Global, text: &[u8], room: u32) -> Result<Option<Vec<u8>>, AllocError>
+    requires some { 0 < room }
     ensures { IfOk result (λ found. IfSome found (λ copy.
         read_with span_step room no_span text.now
         ≡ read_with span_step room no_span copy.items)) }
 {
-    if room == 0 {
-        return Ok(None);
-    }
     let depth = 101u32.saturating_sub(room);
     let mut copy = Vec::with_capacity(alloc, text.len())?;
     // What isn't copied yet begins here.
     let mut from = text;
     let mut left = text;
     let mut most = 0u32;
-    'fields: while let Ok(Some((field, rest))) = next_field(left, depth) {
+    'fields: while !left.is_empty() {
+        // Most attributes have lengths of one byte, and stay.
+        if let Some((_attribute, rest)) = short_field(left, 9) {
+            most = most.max(9);
+            left = rest;
+            continue;
+        }
+        let Ok(Some((field, rest))) = next_field(left, depth) else {
+            return Ok(None);
+        };
         let spare = spare_inside(field, left.len() - rest.len(), room - 1);
         let stays = spare.is_none() && !is_default(field);
         if stays {
+            if is_late(field, most) {
+                return Ok(None);
+            }
             most = most.max(field.number);
             left = rest;
             continue;
@@ -142,8 +164,9 @@ fn dropped(alloc: Global, text: &[u8], room: u32) -> Result<Option<Vec<u8>>, All
 /// levels, as in `is_span_text`. Else none, and nothing is said of the text.
 ///
 /// A default is looked for in the span and in its status, events and links, and in no attribute. What holds of defaults
-/// holds of lengths that are longer than they have to be, of the messages and attributes in the span. The text may have
-/// some bytes of room more than it takes: at most 38 for each default, and 18 for each length.
+/// holds of lengths that are longer than they have to be, of the messages and attributes in the span. An event in which
+/// there is one of these may begin with its name, and its time behind that. The text may have some bytes of room more
+/// than it takes: at most 38 for each default, and 18 for each length.
 pub fn without_defaults(
     alloc: Global,
     text: &[u8],
@@ -152,6 +175,9 @@ pub fn without_defaults(
     ensures { IfOk result (λ found. IfSome found (λ copy. CanonicalCopy room text.now
         copy.items)) }
 {
+    if room == 0 {
+        return Ok(None);
+    }
     let Some(copy) = dropped(alloc, text, room)? else {
         return Ok(None);
     };

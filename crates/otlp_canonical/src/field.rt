@@ -8,7 +8,7 @@ ghost use Rattle.otlp_trace.specs.Text.{bytes_field, some_bytes, some_number, so
 ghost use Rattle.otlp_canonical.specs.Parts.{Front};
 ghost use Rattle.otlp_canonical.specs.Sound.{Any};
 
-use crate::number::{behind, content, shortest};
+use crate::number::{behind, content, short_content, shortest};
 
 /// What the field of this number and wire type `Bytes` at the front holds, and the rest.
 #[inline(always)]
@@ -19,6 +19,20 @@ pub fn bytes_field(text: &[u8], number: u8) -> Option<(&[u8], &[u8])>
 {
     let behind = behind(text, number * 8 + 2)?;
     let (bytes, rest) = content(behind)?;
+    Some((bytes, rest))
+}
+
+/// What the field of this number and wire type `Bytes` at the front holds, and the rest. None where its length has more
+/// than one byte.
+#[inline(always)]
+pub fn short_field(text: &[u8], number: u8) -> Option<(&[u8], &[u8])>
+    requires fits { number < 16 }
+    ensures parts { IfSome result (λ x. text.now ≡ bytes_field number x.0.now ++ x.1.now) }
+    ensures shorter { IfSome result (λ x. length x.1.now < length text.now) }
+    ensures short { IfSome result (λ x. length x.0.now < 128) }
+{
+    let behind = behind(text, number * 8 + 2)?;
+    let (bytes, rest) = short_content(behind)?;
     Some((bytes, rest))
 }
 
@@ -177,7 +191,7 @@ fn behind_two(text: &[u8], first: u8, second: u8) -> Option<&[u8]>
     Some(text)
 }
 
-/// The same in a field of number 16, whose tag has two bytes.
+/// What stands behind a span's flags, a number of four bytes that is left out where it is 0. Their tag has two bytes.
 pub fn some_flags(text: &[u8]) -> Option<&[u8]>
     ensures { IfSome result (λ rest. Front (some_four 16) (λ x. x < 2 ^ 32) text.now rest.now) }
 {

@@ -1,19 +1,32 @@
-//! Messages inside a span that are copied without the defaults that are written in them, and with lengths as short as
-//! they can be.
+//! Messages inside a span that are copied without the defaults that are written in them, with lengths as short as they
+//! can be, and an event's name behind its time.
 
-ghost use Rattle.std.specs.Prelude.{◌≡◌, ◌==◌, ◌<◌, ℕ, Bool, true, false, IfOk};
+ghost use Rattle.std.specs.Prelude.{◌≡◌, ◌==◌, ◌<◌, ℕ, Bool, true, false, IfOk, IfSome};
 ghost use Rattle.pb_wire.specs.Grammar.{Entry, entry};
 ghost use Rattle.otlp_trace.specs.Data.{StatusData, EventData, LinkData};
 ghost use Rattle.otlp_trace.specs.Defaults.{no_status, no_event, no_link};
 ghost use Rattle.otlp_read.specs.Value.{status_step, event_step, link_step};
 ghost use Rattle.otlp_read.specs.Walk.{Step};
 ghost use Rattle.otlp_canonical.specs.Attribute.{AttributeLaws};
-ghost use Rattle.otlp_canonical.specs.Inner.{status_default, event_default, link_default, StatusDefaults, EventDefaults, LinkDefaults, DefaultLaws, ReadAlike, FieldAlike, PutFor};
+ghost use Rattle.otlp_canonical.specs.Inner.{status_default, event_default, link_default, StatusDefaults, EventDefaults, LinkDefaults, DefaultLaws, ReadAlike, FieldAlike, PutFor, TurnedFields};
 
 use crate::attribute::{attribute_size, field_size, put_attribute};
 use otlp_trace::{Event, Link, Status};
 use pb_wire::{Field, Value, WireType, next_field, put_tag, put_varint};
 use std::alloc::AllocError;
+
+/// Two fields that begin a message, and what stands behind them.
+#[derive(Clone, Copy)]
+pub struct Turned<'a> {
+    /// As it stands first.
+    pub first: &'a [u8],
+
+    /// As it stands behind the first.
+    pub second: &'a [u8],
+
+    /// What stands behind both.
+    pub rest: &'a [u8],
+}
 
 /// A message inside a span, in which defaults may be written.
 pub trait Inner {
@@ -38,6 +51,13 @@ pub trait Inner {
     fn is_attribute(number: u32) -> bool
         ensures { result ≡ attribute number };
 
+    /// Its first two fields, which stand the other way round in canonical order, and what stands behind them; none
+    /// where that isn't known of them.
+    fn turned(text: &[u8], depth: u32) -> Option<Turned<'_>>
+        ensures { IfSome result (λ turned.
+            TurnedFields step none depth text.now turned.first.now turned.second.now
+            turned.rest.now) };
+
     /// A default behind fields of smaller numbers changes nothing.
     fn defaults_change_nothing()
         ensures { DefaultLaws step none default Above };
@@ -50,6 +70,7 @@ pub trait Inner {
 /// How many bytes of the field, which takes so many, need not be there: all where it is a default that is written out,
 /// and those that the lengths of an attribute need not have. In an attribute whose own length is as short as it can be
 /// none is looked for.
+#[inline(always)]
 fn spare_in<M: Inner>(field: Field<'_>, size: usize, room: u32) -> usize {
     if M::is_default(field) {
         return size;
@@ -63,7 +84,8 @@ fn spare_in<M: Inner>(field: Field<'_>, size: usize, room: u32) -> usize {
     size.saturating_sub(field_size(attribute_size(text, room)))
 }
 
-/// How many bytes of the message need not be there, likewise.
+/// How many bytes of the message need not be there: defaults that are written out, and those that the lengths of
+/// attributes need not have.
 pub fn spare_size<M: Inner>(text: &[u8], room: u32) -> usize {
     let depth = 101u32.saturating_sub(room);
     let mut spare = 0usize;
@@ -102,8 +124,9 @@ fn put_field<M: Inner>(
     Ok(whole)
 }
 
-/// Appends the message without the defaults that stand in it. Tells whether it did: it doesn't where a default stands
-/// behind a field of its own number or a greater one, and may take back what came before.
+/// Appends the message without what need not be there, and its first two fields as `turned` has them. Tells whether it
+/// did: it doesn't where a default stands behind a field of its own number or a greater one, and may take back what
+/// came before.
 fn put_bare<M: Inner>(copy: &mut Vec<u8>, text: &[u8], room: u32) -> Result<bool, AllocError>
     ensures { IfOk result (λ whole. whole ≡ true
         → ReadAlike M.step M.none room text.now copy.old.items copy.new.items) }
@@ -115,8 +138,14 @@ fn put_bare<M: Inner>(copy: &mut Vec<u8>, text: &[u8], room: u32) -> Result<bool
     let depth = 101u32.saturating_sub(room);
     // What isn't copied yet begins here.
     let mut from = text;
-    let mut left = text;
     let mut most = 0u32;
+    if let Some(turned) = M::turned(text, depth) {
+        copy.extend_from_slice(turned.second)?;
+        copy.extend_from_slice(turned.first)?;
+        from = turned.rest;
+        most = 2;
+    }
+    let mut left = from;
     'fields: while let Ok(Some((field, rest))) = next_field(left, depth) {
         if spare_in::<M>(field, left.len() - rest.len(), room - 1) == 0 {
             most = most.max(field.number);
@@ -179,6 +208,10 @@ impl Inner for Status {
         }
     }
 
+    fn turned(_text: &[u8], _depth: u32) -> Option<Turned<'_>> {
+        None
+    }
+
     fn is_attribute(_number: u32) -> bool {
         false
     }
@@ -210,6 +243,29 @@ impl Inner for Event {
         }
     }
 
+    fn turned(text: &[u8], depth: u32) -> Option<Turned<'_>> {
+        let Ok(Some((name, behind))) = next_field(text, depth) else {
+            return None;
+        };
+        let Value::Bytes(_name) = name.value else {
+            return None;
+        };
+        let Ok(Some((time, rest))) = next_field(behind, depth) else {
+            return None;
+        };
+        let Value::Eight(_time) = time.value else {
+            return None;
+        };
+        if name.number != 2 || time.number != 1 {
+            return None;
+        }
+        Some(Turned {
+            first: &text[..text.len() - behind.len()],
+            second: &behind[..behind.len() - rest.len()],
+            rest,
+        })
+    }
+
     fn is_attribute(number: u32) -> bool {
         number == 3
     }
@@ -239,6 +295,10 @@ impl Inner for Link {
             Value::Four(bytes) => field.number == 6 && u32::from_le_bytes(bytes) == 0,
             Value::Eight(_) | Value::Group(_) => false,
         }
+    }
+
+    fn turned(_text: &[u8], _depth: u32) -> Option<Turned<'_>> {
+        None
     }
 
     fn is_attribute(number: u32) -> bool {

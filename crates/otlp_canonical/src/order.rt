@@ -21,6 +21,15 @@ const NOT_KNOWN: u32 = 17;
 /// No field has a place as high.
 const NO_PLACE: u32 = 18;
 
+/// The place of the field `dropped_attributes_count`.
+const DROPPED_ATTRIBUTES_COUNT: usize = 10;
+
+/// The place of the field `dropped_events_count`.
+const DROPPED_EVENTS_COUNT: usize = 12;
+
+/// The place of the field `dropped_links_count`.
+const DROPPED_LINKS_COUNT: usize = 14;
+
 /// Where a span's field stands in canonical order: at its number, if the span knows it.
 fn place(field: Field<'_>) -> u32
     ensures is { result ≡ place_of (entry field.entry) }
@@ -120,7 +129,8 @@ fn put_apart(copy: &mut Vec<u8>, text: &[u8], depth: u32, wanted: u32) -> Result
     Ok(true)
 }
 
-/// The same, where the run tells how they stand.
+/// Appends the fields of the text that stand at this place, of which their run tells how they stand: at once where no
+/// others stand between them. Else it tells whether the whole text is fields.
 fn put_run(
     copy: &mut Vec<u8>,
     text: &[u8],
@@ -139,11 +149,32 @@ fn put_run(
     Ok(true)
 }
 
+/// Whether a number stands at the run that is written as 0.
+fn is_zero(text: &[u8], run: Run) -> bool {
+    run.start < run.end && matches!(text.get(run.end - 1), Some(0))
+}
+
+/// Whether one of a span's counts is written as 0.
+fn has_zero_count(text: &[u8], runs: &[Run; 18]) -> bool {
+    is_zero(text, runs[DROPPED_ATTRIBUTES_COUNT])
+        || is_zero(text, runs[DROPPED_EVENTS_COUNT])
+        || is_zero(text, runs[DROPPED_LINKS_COUNT])
+}
+
+/// A span's text with its fields in canonical order.
+#[derive(Drop)]
+struct OrderedText {
+    copy: Vec<u8>,
+
+    /// One of the span's counts is written as 0, so that the text isn't canonical.
+    zero_count: bool,
+}
+
 /// The text with its fields in canonical order, or none where they are in order already, where it isn't fields, or
 /// where a field of one value stands twice.
-fn sorted(alloc: Global, text: &[u8], room: u32) -> Result<Option<Vec<u8>>, AllocError>
-    ensures { IfOk result (λ found. IfSome found (λ copy. (span : SpanData)
-        → read_with span_step room no_span copy.items ≡ Ok span
+fn sorted(alloc: Global, text: &[u8], room: u32) -> Result<Option<OrderedText>, AllocError>
+    ensures { IfOk result (λ found. IfSome found (λ sorted. (span : SpanData)
+        → read_with span_step room no_span sorted.copy.items ≡ Ok span
         → read_with span_step room no_span text.now ≡ Ok span)) }
 {
     if room == 0 {
@@ -161,22 +192,24 @@ fn sorted(alloc: Global, text: &[u8], room: u32) -> Result<Option<Vec<u8>>, Allo
         }
         place += 1;
     }
-    Ok(Some(copy))
+    let zero_count = has_zero_count(text, &runs);
+    Ok(Some(OrderedText { copy, zero_count }))
 }
 
 /// A span's canonical text, where the given text is that but for the order of its fields, and for defaults that are
 /// written out; with room for so many levels, as in `is_span_text`. Else none, and nothing is said of the text.
 ///
-/// The fields of a message inside the span aren't put in order. The text may have some bytes of room more than it
-/// takes: at most 38 for each default.
+/// What `without_defaults` says of messages inside the span holds here too. The text may have some bytes of room more
+/// than it takes: at most 38 for each default, and 18 for each length.
 pub fn in_order(alloc: Global, text: &[u8], room: u32) -> Result<Option<Vec<u8>>, AllocError>
     ensures { IfOk result (λ found. IfSome found (λ copy. CanonicalCopy room text.now
         copy.items)) }
 {
-    let Some(copy) = sorted(alloc, text, room)? else {
+    let Some(sorted) = sorted(alloc, text, room)? else {
         return Ok(None);
     };
-    if is_span_text(copy.as_slice(), room) {
+    let OrderedText { copy, zero_count } = sorted;
+    if !zero_count && is_span_text(copy.as_slice(), room) {
         return Ok(Some(copy));
     }
     let found = without_defaults(alloc, copy.as_slice(), room)?;

@@ -85,7 +85,7 @@ fn names(text: &[u8]) -> Option<&[u8]>
     Some(name)
 }
 
-/// Its kind and times.
+/// What stands behind a span's kind and times.
 fn times(text: &[u8]) -> Option<&[u8]>
     ensures { IfSome result (λ rest. Front span_times_text SoundTimes text.now rest.now) }
 {
@@ -95,7 +95,7 @@ fn times(text: &[u8]) -> Option<&[u8]>
     Some(end)
 }
 
-/// Its attributes, events and links, with how many were left out.
+/// What stands behind a span's attributes, events and links, each with how many were left out.
 fn lists(text: &[u8], room: u32) -> Option<&[u8]>
     ensures { IfSome result (λ rest. Front span_lists_text (SoundLists room) text.now rest.now) }
 {
@@ -108,7 +108,7 @@ fn lists(text: &[u8], room: u32) -> Option<&[u8]>
     Some(links_left)
 }
 
-/// Its status, its flags and what isn't known.
+/// Goes over the end of a span: its status, its flags and what isn't known.
 fn end(text: &[u8], room: u32) -> Option<()>
     ensures { IfSome result (λ u. Whole span_end_text (SoundEnd room) text.now) }
 {

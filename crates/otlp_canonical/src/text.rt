@@ -16,7 +16,7 @@ pub fn is_span_text(text: &[u8], room: u32) -> bool
     Span::check(text, room).is_some()
 }
 
-/// The same of a resource: 99 in a body.
+/// Whether the text is a resource's canonical text, with room for so many levels, its own among them: 99 in a body.
 pub fn is_resource_text(text: &[u8], room: u32) -> bool
     ensures { IsTrue result → CanonicalResource room text.now }
 {
@@ -24,7 +24,7 @@ pub fn is_resource_text(text: &[u8], room: u32) -> bool
     Resource::check(text, room).is_some()
 }
 
-/// The same of a scope: 98 in a body.
+/// Whether the text is a scope's canonical text, with room for so many levels, its own among them: 98 in a body.
 pub fn is_scope_text(text: &[u8], room: u32) -> bool
     ensures { IsTrue result → CanonicalScope room text.now }
 {
@@ -32,7 +32,7 @@ pub fn is_scope_text(text: &[u8], room: u32) -> bool
     InstrumentationScope::check(text, room).is_some()
 }
 
-/// The same of a whole body.
+/// Whether the text is a whole body's canonical text.
 pub fn is_request_text(text: &[u8]) -> bool
     ensures { IsTrue result → CanonicalRequest text.now }
 {

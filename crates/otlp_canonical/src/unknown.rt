@@ -37,7 +37,7 @@ pub fn unknown<M: Keeping>(text: &[u8], room: u32) -> Option<()>
     some_unknown::<M>(text, room)
 }
 
-/// The same, field by field.
+/// Goes field by field over a text of which the message may know none.
 fn some_unknown<M: Keeping>(text: &[u8], room: u32) -> Option<()>
     ensures { IfSome result (λ u. Kept M.known room text.now) }
 {

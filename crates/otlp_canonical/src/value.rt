@@ -221,7 +221,7 @@ fn any_pair(text: &[u8], room: u32) -> Option<()>
     Some(())
 }
 
-/// The same. Most are plain, and take no call.
+/// Goes over a key with or without a value. Most are plain, and take no call.
 #[cycle(any)]
 #[inline(always)]
 pub fn key_value(text: &[u8], room: u32) -> Option<()>

@@ -1,23 +1,35 @@
--- A resource or a scope that stands again, as one more field behind those that came.
-use Rattle.std.proofs.Common.{◌≡◌, ℕ, ◌<◌, ◌^◌, true, List, ◌++◌, length, Option, Some, Result, Ok, Err, refl, sym, ap, ◌∙◌}
-use Rattle.std.specs.Prelude.{is_ok, unwrap_or}
-use Rattle.pb_wire.specs.Grammar.{Bytes}
+-- A message that stands again, as one more field behind those that came.
+use Rattle.std.proofs.Common.{◌≡◌, ℕ, ◌-◌, ◌<◌, ◌^◌, true, false, List, [], ◌++◌, length, Option, Some, None, Result, Ok, Err, refl, sym, ap, ◌∙◌, append_assoc, append-nil}
+use Rattle.std.specs.Prelude.{is_ok}
+use Rattle.pb_wire.specs.Grammar.{Bytes, Entry, IsField}
 use Rattle.otlp_trace.proofs.Spelled.{number_some, number_fits, bytes_at}
-use Rattle.otlp_trace.specs.Data.{ResourceData, ScopeData}
 use Rattle.otlp_trace.specs.Text.{bytes_field}
 use Rattle.otlp_read.specs.declared.fault.ReadFault.{ReadFault}
 use Rattle.otlp_read.specs.declared.fault.ReadFault.TheVariants.{Truncated, VarintTooLong, BadTag, GroupMismatch, TooDeep, NotUtf8, OutOfMemory}
-use Rattle.otlp_read.specs.Fault.{Fails}
-use Rattle.otlp_trace.specs.Defaults.{no_resource, no_scope, no_scope_spans, no_resource_spans}
-use Rattle.otlp_read.specs.Value.{scope_spans_step, resource_spans_step, merged_resource, merged_scope}
-use Rattle.otlp_read.specs.Walk.{◌>>=◌, Step, numbered, walk}
-use Rattle.otlp_read.proofs.Laws.{makes}
+use Rattle.otlp_read.specs.Fault.{Fails, Gives}
+use Rattle.otlp_read.specs.Walk.{◌>>=◌, Step, Piece, Pieces, no_pieces, more_pieces, numbered, fold_fields, walk}
+use Rattle.otlp_read.proofs.Laws.{bind_ok, front_taken, front_failed, makes}
 use Rattle.otlp_read.proofs.Opened.{opened_at}
-use Rattle.otlp_parts.specs.ReadAs.{value_or, resource_in, resource_of, resource_spans_in, resource_among, another_resource, scope_in, scope_of, scope_spans_in, scope_among, another_scope}
-use Rattle.otlp_parts.proofs.Alone.{alone, taken_on}
-use Rattle.otlp_parts.proofs.Fates.{fate_err, fate_ok, resource_fate, scope_fate}
+use Rattle.otlp_read.proofs.Walks.{turn_end}
+use Rattle.otlp_parts.specs.ReadAs.{value_or}
+use Rattle.otlp_parts.specs.Embedded.{Embedding, message_in, message_of, holder_in, held_among, another, fault_of, MergeLaws}
 use Rattle.otlp_parts.proofs.Values.{value_is, ok_of}
-use Rattle.otlp_parts.proofs.Wrapped.{resource_inside, scope_inside}
+
+-- ---- any message
+
+-- one field is taken, and that's all
+alone : {A : Type 0} (step : Step A) (d : ℕ) (a : A) (front : List ℕ) (e : Entry) → IsField d front e → (r : Result A ReadFault) → step a e front ≡ r → walk step d a front ≡ r
+alone step d a front e first (Ok b) is = ap (walk step d a) (sym (append-nil front)) ∙ front_taken step d a b front [] e first is ∙ turn_end step d b [] refl
+alone step d a front e first (Err f) is = ap (walk step d a) (sym (append-nil front)) ∙ front_failed step d a front [] e f first is
+
+-- sound fields are taken, whatever stands behind them
+taken_on : {A : Type 0} (step : Step A) {d : ℕ} {text : List ℕ} {pieces : List Piece} → Pieces d text pieces → (a b : A) → fold_fields step a pieces ≡ Ok b → (rest : List ℕ) → walk step d a (text ++ rest) ≡ walk step d b rest
+taken_on step (no_pieces {d = d}) a b made rest =
+    let same : a ≡ b = cc in
+    ap (λ x. walk step d x rest) same
+taken_on step (more_pieces {d = d} {front = front} {rest = others} {field = field} {pieces = pieces} first inner) a b made rest =
+    let one = bind_ok (step a field front) (λ c. fold_fields step c pieces) b made in
+    ap (walk step d a) (append_assoc front others rest) ∙ front_taken step d a one.0 front (others ++ rest) field first one.1 ∙ taken_on step inner one.0 b one.2 rest
 
 -- a field behind fields that make a message
 behind : {A : Type 0} (step : Step A) (d : ℕ) (a b : A) (fields bytes : List ℕ) → length bytes < 2 ^ 64 → walk step d a fields ≡ Ok b
@@ -26,88 +38,56 @@ behind step d a b fields bytes short made =
     let m = makes step d a b fields made in
     taken_on step m.are a b m.made (bytes_field 1 bytes) ∙ alone step d b (bytes_field 1 bytes) (numbered 1 (Bytes bytes)) (bytes_at d 1 bytes (number_some 1 refl) (number_fits 1 refl) short) (step b (numbered 1 (Bytes bytes)) (bytes_field 1 bytes)) refl
 
--- ---- resources
+-- ---- readings of one fault
 
-pub resource_alone : (bytes : List ℕ) → length bytes < 2 ^ 64 → is_ok (resource_in bytes) ≡ true → resource_spans_in (bytes_field 1 bytes) ≡ Ok (record no_resource_spans { resource = Some (resource_of bytes) })
-resource_alone bytes short is =
-    resource_inside bytes short ∙ ap (λ (r : Result ResourceData ReadFault). r >>= λ x. Ok (record no_resource_spans { resource = Some x })) (value_is no_resource (resource_in bytes) is)
+sound_alike : {A B : Type 0} (r : Result A ReadFault) (s : Result B ReadFault) → fault_of s ≡ fault_of r → is_ok r ≡ true → is_ok s ≡ true
+sound_alike r (Ok b) same sound = refl
+sound_alike (Ok a) (Err g) same sound = absurd (cc)
+sound_alike (Err f) (Err g) same sound = absurd (cc)
 
--- what they are merged with the resource that came before
-resource_merged : (fields bytes : List ℕ) → is_ok (resource_in bytes) ≡ true → (x : ResourceData) × (merged_resource 99 (resource_among fields) bytes ≡ Ok x)
-resource_merged fields bytes is =
-    fate_ok (resource_in bytes) (merged_resource 99 (resource_among fields) bytes) (resource_of bytes) (resource_fate 99 no_resource (unwrap_or (resource_among fields) no_resource) bytes) (value_is no_resource (resource_in bytes) is)
+failed_alike : {A B : Type 0} (r : Result A ReadFault) (s : Result B ReadFault) (f : ReadFault) → fault_of s ≡ fault_of r → r ≡ Err f → s ≡ Err f
+failed_alike r (Ok b) f same is = absurd (let no : None ≡ Some f = same ∙ ap fault_of is in cc)
+failed_alike r (Err g) f same is = let one : Some g ≡ Some f = same ∙ ap fault_of is in let e : g ≡ f = cc in ap (λ (h : ReadFault). Err h) e
 
-resource_behind : (fields bytes : List ℕ) (x : ResourceData) → length bytes < 2 ^ 64 → is_ok (resource_spans_in fields) ≡ true → merged_resource 99 (resource_among fields) bytes ≡ Ok x
-    → resource_spans_in (fields ++ bytes_field 1 bytes) ≡ Ok (record (value_or no_resource_spans (resource_spans_in fields)) { resource = Some x })
-resource_behind fields bytes x short are merged =
-    let g = value_or no_resource_spans (resource_spans_in fields) in
-    let made : walk (resource_spans_step 99) 1 no_resource_spans fields ≡ Ok g = sym (opened_at resource_spans_step 99 no_resource_spans fields) ∙ value_is no_resource_spans (resource_spans_in fields) are in
-    opened_at resource_spans_step 99 no_resource_spans (fields ++ bytes_field 1 bytes) ∙ behind (resource_spans_step 99) 1 no_resource_spans g fields bytes short made
-    ∙ ap (λ (r : Result ResourceData ReadFault). r >>= λ y. Ok (record g { resource = Some y })) merged
+fails_alike : {A B : Type 0} (r : Result A ReadFault) (s : Result B ReadFault) (f : ReadFault) → fault_of s ≡ fault_of r → Fails f r → Fails f s
+fails_alike r s Truncated same is = failed_alike r s Truncated same is
+fails_alike r s VarintTooLong same is = failed_alike r s VarintTooLong same is
+fails_alike r s BadTag same is = failed_alike r s BadTag same is
+fails_alike r s GroupMismatch same is = failed_alike r s GroupMismatch same is
+fails_alike r s TooDeep same is = failed_alike r s TooDeep same is
+fails_alike r s NotUtf8 same is = failed_alike r s NotUtf8 same is
+fails_alike r s OutOfMemory same is = tt
 
-pub resource_again_is : (fields bytes : List ℕ) → length bytes < 2 ^ 64 → is_ok (resource_spans_in fields) ≡ true → is_ok (resource_in bytes) ≡ true → is_ok (resource_spans_in (fields ++ bytes_field 1 bytes)) ≡ true
-resource_again_is fields bytes short are is =
-    let m = resource_merged fields bytes is in ok_of _ _ (resource_behind fields bytes m.0 short are m.1)
+pub gives_err : {X A B : Type 0} (view : X → B) (x : Result X ReadFault) (f g : ReadFault) (r : Result A ReadFault) (s : Result B ReadFault) → x ≡ Err f → f ≡ g → fault_of s ≡ fault_of r → Fails g r → Gives view x s
+gives_err view x f g r s is of same fails = rw (is, of) (fails_alike r s g same fails)
 
-pub resource_again : (fields bytes : List ℕ) → length bytes < 2 ^ 64 → is_ok (resource_spans_in fields) ≡ true → is_ok (resource_in bytes) ≡ true
-    → another_resource (resource_among fields) bytes ≡ Ok (resource_among (fields ++ bytes_field 1 bytes))
-resource_again fields bytes short are is =
-    let m = resource_merged fields bytes is in
-    let found : resource_among (fields ++ bytes_field 1 bytes) ≡ Some m.0 = ap (λ r. (value_or no_resource_spans r).resource) (resource_behind fields bytes m.0 short are m.1) in
-    ap (λ (r : Result ResourceData ReadFault). r >>= λ y. Ok (Some y)) m.1 ∙ ap (λ (o : Option ResourceData). Ok o) (sym found)
+-- what was made of a value that was read
+made_of : {A B : Type 0} (get : A → B) (none : A) (r : Result A ReadFault) (s : Result B ReadFault) → (r >>= λ x. Ok (get x)) ≡ s → is_ok s ≡ true → (is_ok r ≡ true) × (s ≡ Ok (get (value_or none r)))
+made_of get none (Ok x) s same sound = (refl, sym same)
+made_of {B = B} get none (Err f) s same sound = absurd (let no : false ≡ true = ap (λ (t : Result B ReadFault). is_ok t) same ∙ sound in cc)
 
-resource_failed : (before : Option ResourceData) (bytes : List ℕ) (f : ReadFault) → resource_in bytes ≡ Err f → another_resource before bytes ≡ Err f
-resource_failed before bytes f is =
-    ap (λ (r : Result ResourceData ReadFault). r >>= λ y. Ok (Some y)) (fate_err (resource_in bytes) (merged_resource 99 before bytes) f (resource_fate 99 no_resource (unwrap_or before no_resource) bytes) is)
+-- ---- a message in its holder
 
-pub resource_fails : (before : Option ResourceData) (bytes : List ℕ) (f : ReadFault) → Fails f (resource_in bytes) → Fails f (another_resource before bytes)
-resource_fails before bytes Truncated is = resource_failed before bytes Truncated is
-resource_fails before bytes VarintTooLong is = resource_failed before bytes VarintTooLong is
-resource_fails before bytes BadTag is = resource_failed before bytes BadTag is
-resource_fails before bytes GroupMismatch is = resource_failed before bytes GroupMismatch is
-resource_fails before bytes TooDeep is = resource_failed before bytes TooDeep is
-resource_fails before bytes NotUtf8 is = resource_failed before bytes NotUtf8 is
-resource_fails before bytes OutOfMemory is = tt
+module _ {A W : Type 0} (e : Embedding A W) (laws : MergeLaws e) (fields bytes : List ℕ) where
+  -- what the fields make with one more
+  more : length bytes < 2 ^ 64 → is_ok (holder_in e fields) ≡ true → (holder_in e (fields ++ bytes_field 1 bytes) >>= λ w. Ok (e.held w)) ≡ another e (held_among e fields) bytes
+  more short are =
+      let w = value_or e.holder_none (holder_in e fields) in
+      let made : walk (e.holder_step e.room) (100 - e.room) e.holder_none fields ≡ Ok w = sym (opened_at e.holder_step e.room e.holder_none fields) ∙ value_is e.holder_none (holder_in e fields) are in
+      let whole = opened_at e.holder_step e.room e.holder_none (fields ++ bytes_field 1 bytes) ∙ behind (e.holder_step e.room) (100 - e.room) e.holder_none w fields bytes short made in
+      ap (λ (r : Result W ReadFault). r >>= λ v. Ok (e.held v)) whole ∙ laws.merges w bytes (bytes_field 1 bytes)
 
--- ---- scopes
+  pub with_more : length bytes < 2 ^ 64 → is_ok (holder_in e fields) ≡ true → is_ok (message_in e bytes) ≡ true
+      → (is_ok (holder_in e (fields ++ bytes_field 1 bytes)) ≡ true) × (another e (held_among e fields) bytes ≡ Ok (held_among e (fields ++ bytes_field 1 bytes)))
+  with_more short are is =
+      let before = held_among e fields in
+      made_of e.held e.holder_none (holder_in e (fields ++ bytes_field 1 bytes)) (another e before bytes) (more short are) (sound_alike (message_in e bytes) (another e before bytes) (laws.same_fault before bytes) is)
 
-pub scope_alone : (bytes : List ℕ) → length bytes < 2 ^ 64 → is_ok (scope_in bytes) ≡ true → scope_spans_in (bytes_field 1 bytes) ≡ Ok (record no_scope_spans { scope = Some (scope_of bytes) })
-scope_alone bytes short is =
-    scope_inside bytes short ∙ ap (λ (r : Result ScopeData ReadFault). r >>= λ x. Ok (record no_scope_spans { scope = Some x })) (value_is no_scope (scope_in bytes) is)
-
--- what they are merged with the scope that came before
-scope_merged : (fields bytes : List ℕ) → is_ok (scope_in bytes) ≡ true → (x : ScopeData) × (merged_scope 98 (scope_among fields) bytes ≡ Ok x)
-scope_merged fields bytes is =
-    fate_ok (scope_in bytes) (merged_scope 98 (scope_among fields) bytes) (scope_of bytes) (scope_fate 98 no_scope (unwrap_or (scope_among fields) no_scope) bytes) (value_is no_scope (scope_in bytes) is)
-
-scope_behind : (fields bytes : List ℕ) (x : ScopeData) → length bytes < 2 ^ 64 → is_ok (scope_spans_in fields) ≡ true → merged_scope 98 (scope_among fields) bytes ≡ Ok x
-    → scope_spans_in (fields ++ bytes_field 1 bytes) ≡ Ok (record (value_or no_scope_spans (scope_spans_in fields)) { scope = Some x })
-scope_behind fields bytes x short are merged =
-    let g = value_or no_scope_spans (scope_spans_in fields) in
-    let made : walk (scope_spans_step 98) 2 no_scope_spans fields ≡ Ok g = sym (opened_at scope_spans_step 98 no_scope_spans fields) ∙ value_is no_scope_spans (scope_spans_in fields) are in
-    opened_at scope_spans_step 98 no_scope_spans (fields ++ bytes_field 1 bytes) ∙ behind (scope_spans_step 98) 2 no_scope_spans g fields bytes short made
-    ∙ ap (λ (r : Result ScopeData ReadFault). r >>= λ y. Ok (record g { scope = Some y })) merged
-
-pub scope_again_is : (fields bytes : List ℕ) → length bytes < 2 ^ 64 → is_ok (scope_spans_in fields) ≡ true → is_ok (scope_in bytes) ≡ true → is_ok (scope_spans_in (fields ++ bytes_field 1 bytes)) ≡ true
-scope_again_is fields bytes short are is =
-    let m = scope_merged fields bytes is in ok_of _ _ (scope_behind fields bytes m.0 short are m.1)
-
-pub scope_again : (fields bytes : List ℕ) → length bytes < 2 ^ 64 → is_ok (scope_spans_in fields) ≡ true → is_ok (scope_in bytes) ≡ true
-    → another_scope (scope_among fields) bytes ≡ Ok (scope_among (fields ++ bytes_field 1 bytes))
-scope_again fields bytes short are is =
-    let m = scope_merged fields bytes is in
-    let found : scope_among (fields ++ bytes_field 1 bytes) ≡ Some m.0 = ap (λ r. (value_or no_scope_spans r).scope) (scope_behind fields bytes m.0 short are m.1) in
-    ap (λ (r : Result ScopeData ReadFault). r >>= λ y. Ok (Some y)) m.1 ∙ ap (λ (o : Option ScopeData). Ok o) (sym found)
-
-scope_failed : (before : Option ScopeData) (bytes : List ℕ) (f : ReadFault) → scope_in bytes ≡ Err f → another_scope before bytes ≡ Err f
-scope_failed before bytes f is =
-    ap (λ (r : Result ScopeData ReadFault). r >>= λ y. Ok (Some y)) (fate_err (scope_in bytes) (merged_scope 98 before bytes) f (scope_fate 98 no_scope (unwrap_or before no_scope) bytes) is)
-
-pub scope_fails : (before : Option ScopeData) (bytes : List ℕ) (f : ReadFault) → Fails f (scope_in bytes) → Fails f (another_scope before bytes)
-scope_fails before bytes Truncated is = scope_failed before bytes Truncated is
-scope_fails before bytes VarintTooLong is = scope_failed before bytes VarintTooLong is
-scope_fails before bytes BadTag is = scope_failed before bytes BadTag is
-scope_fails before bytes GroupMismatch is = scope_failed before bytes GroupMismatch is
-scope_fails before bytes TooDeep is = scope_failed before bytes TooDeep is
-scope_fails before bytes NotUtf8 is = scope_failed before bytes NotUtf8 is
-scope_fails before bytes OutOfMemory is = tt
+-- as the first of its holder's fields
+pub only_one : {A W : Type 0} (e : Embedding A W) (laws : MergeLaws e) (bytes : List ℕ) → length bytes < 2 ^ 64 → is_ok (message_in e bytes) ≡ true
+    → (is_ok (holder_in e (bytes_field 1 bytes)) ≡ true) × ◌≡◌ {A = Result (Option A) ReadFault} (Ok (Some (message_of e bytes))) (Ok (held_among e (bytes_field 1 bytes)))
+only_one {A = A} {W = W} e laws bytes short is =
+    let none : holder_in e [] ≡ Ok e.holder_none = opened_at e.holder_step e.room e.holder_none [] ∙ turn_end (e.holder_step e.room) (100 - e.room) e.holder_none [] refl in
+    let held : held_among e [] ≡ None = ap (λ (r : Result W ReadFault). e.held (value_or e.holder_none r)) none ∙ laws.first in
+    let one = with_more e laws [] bytes short (ok_of e.holder_none (holder_in e []) none) is in
+    (one.0, sym (ap (λ (r : Result A ReadFault). r >>= λ x. Ok (Some x)) (value_is e.none (message_in e bytes) is)) ∙ ap (λ (o : Option A). another e o bytes) (sym held) ∙ one.1)

@@ -13,7 +13,11 @@ use Rattle.otlp_parts.specs.Texts.{invalid_in, BodyTexts, texts_of, ArePartsOf}
 use Rattle.otlp_parts.specs.Kept.{kept_of}
 use Rattle.otlp_parts.proofs.Commutes.{counted_texts, body_kept}
 use Rattle.otlp_parts.proofs.Counts.{body_within}
-use Rattle.otlp_parts.proofs.Wrapped.{fault_through}
+
+-- a fault comes through what is made of the value
+fault_through : {A B : Type 0} (r : Result A ReadFault) (f : A → B) (e : ReadFault) → (r >>= λ x. Ok (f x)) ≡ Err e → r ≡ Err e
+fault_through {B = B} (Ok x) f e is = absurd (let never : ◌≡◌ {A = Result B ReadFault} (Ok (f x)) (Err e) = is in cc)
+fault_through {B = B} (Err g) f e is = let same : g ≡ e = cc in ap (λ (h : ReadFault). Err h) same
 
 failed : {Y : Type 0} (f : ReadFault) (read : Result Y ReadFault) → Fails f read → f ≢ OutOfMemory → read ≡ Err f
 failed Truncated read is other = is

@@ -1,12 +1,9 @@
 pub mod Places
 pub mod Values
-pub mod Alone
-pub mod Wrapped
 pub mod Fates
 pub mod Again
 pub mod Commutes
 pub mod Answer
-pub mod Inner
 pub mod Ids
 pub mod Counts
 pub mod WithSpans

@@ -7,7 +7,8 @@ use Rattle.otlp_trace.specs.Text.{span_text, scope_text, resource_text}
 use Rattle.otlp_read.specs.declared.fault.ReadFault.{ReadFault}
 use Rattle.otlp_read.specs.Numbers.{utf8}
 use Rattle.otlp_read.specs.Walk.{◌>>=◌, Step, Known, known_or_dropped, read_with}
-use Rattle.otlp_parts.specs.ReadAs.{span_in, another_scope, another_resource}
+use Rattle.otlp_parts.specs.ReadAs.{span_in}
+use Rattle.otlp_parts.specs.Embedded.{scope_embedding, resource_embedding, another}
 use Rattle.otlp_parts.specs.Texts.{is_valid_span, ScopeTexts, ResourceTexts, BodyTexts, where_any}
 
 -- a count as the code has it, in 64 bits
@@ -49,7 +50,7 @@ span_onto k bytes = kept_span bytes >>= λ o. Ok (with_kept_span k o)
 -- the fields of `ScopeSpans`
 abbrev pub kept_scope_known : Known KeptScope
 kept_scope_known k n (Bytes bs) =
-    if n == 1 then Some (another_scope k.scope bs >>= λ o. Ok (record k { scope = o }))
+    if n == 1 then Some (another scope_embedding k.scope bs >>= λ o. Ok (record k { scope = o }))
     else if n == 2 then Some (span_onto k bs)
     else if n == 3 then Some (utf8 bs >>= λ text. Ok (record k { schema_url = text }))
     else None
@@ -94,7 +95,7 @@ scope_spans_onto k bytes = kept_scope_in bytes >>= λ s. Ok (with_kept_scope k s
 -- the fields of `ResourceSpans`
 abbrev pub kept_resource_known : Known KeptResource
 kept_resource_known k n (Bytes bs) =
-    if n == 1 then Some (another_resource k.resource bs >>= λ o. Ok (record k { resource = o }))
+    if n == 1 then Some (another resource_embedding k.resource bs >>= λ o. Ok (record k { resource = o }))
     else if n == 2 then Some (scope_spans_onto k bs)
     else if n == 3 then Some (utf8 bs >>= λ text. Ok (record k { schema_url = text }))
     else None

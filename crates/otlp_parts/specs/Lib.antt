@@ -1,4 +1,6 @@
 pub mod ReadAs
+pub mod Embedded
+pub mod Found
 pub mod Texts
 pub mod Kept
 pub mod Parts

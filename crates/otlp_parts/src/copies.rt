@@ -8,7 +8,7 @@ use crate::parts::{BodyParts, ResourceParts, ScopeList, ScopeParts, SpanTexts};
 use std::alloc::{AllocError, Global};
 use text_slice::TextSlice;
 
-/// The same bytes, where there are any.
+/// A copy of a text, where there is one.
 fn copied(alloc: Global, text: PartText) -> Result<PartText, AllocError>
     ensures { IfOk result (λ copy. copy ≡ text) }
 {
@@ -21,7 +21,7 @@ fn copied(alloc: Global, text: PartText) -> Result<PartText, AllocError>
     }
 }
 
-/// The same texts, in the same order.
+/// Copies of texts, in their order.
 fn copied_texts(alloc: Global, texts: Vec<TextSlice>) -> Result<Vec<TextSlice>, AllocError>
     ensures { IfOk result (λ copies. copies.items ≡ texts.items) }
 {
@@ -33,7 +33,7 @@ fn copied_texts(alloc: Global, texts: Vec<TextSlice>) -> Result<Vec<TextSlice>, 
     Ok(copies)
 }
 
-/// The same spans.
+/// Copies of the spans of a scope, in their order.
 fn copied_spans(alloc: Global, spans: SpanTexts) -> Result<SpanTexts, AllocError>
     ensures { IfOk result (λ copy. spans_in copy ≡ spans_in spans) }
 {
@@ -49,7 +49,7 @@ fn copied_spans(alloc: Global, spans: SpanTexts) -> Result<SpanTexts, AllocError
     }
 }
 
-/// The same parts of a scope spans.
+/// A copy of the parts of a scope spans.
 fn copied_scope(alloc: Global, parts: ScopeParts) -> Result<ScopeParts, AllocError>
     ensures { IfOk result (λ copy. scope_parts_view copy ≡ scope_parts_view parts) }
 {
@@ -60,7 +60,8 @@ fn copied_scope(alloc: Global, parts: ScopeParts) -> Result<ScopeParts, AllocErr
     })
 }
 
-/// The same scope spans, in the same order.
+/// Copies of the scope spans of a resource, in their order. One has its texts in common with the one before it, where
+/// they are the same.
 fn copied_scopes(alloc: Global, scopes: Vec<ScopeParts>) -> Result<Vec<ScopeParts>, AllocError>
     ensures { IfOk result (λ copies. map scope_parts_view copies.items ≡ map scope_parts_view
         scopes.items) }
@@ -73,7 +74,7 @@ fn copied_scopes(alloc: Global, scopes: Vec<ScopeParts>) -> Result<Vec<ScopePart
     Ok(copies)
 }
 
-/// The same list of scope spans.
+/// A copy of the list of a resource's scope spans.
 fn copied_list(alloc: Global, scopes: ScopeList) -> Result<ScopeList, AllocError>
     ensures { IfOk result (λ copy. scopes_in copy ≡ scopes_in scopes) }
 {
@@ -89,7 +90,7 @@ fn copied_list(alloc: Global, scopes: ScopeList) -> Result<ScopeList, AllocError
     }
 }
 
-/// The same parts of a resource spans.
+/// A copy of the parts of a resource spans.
 fn copied_resource(alloc: Global, parts: ResourceParts) -> Result<ResourceParts, AllocError>
     ensures { IfOk result (λ copy. resource_parts_view copy ≡ resource_parts_view parts) }
 {
@@ -100,7 +101,7 @@ fn copied_resource(alloc: Global, parts: ResourceParts) -> Result<ResourceParts,
     })
 }
 
-/// The same parts of a body.
+/// A copy of the parts of a body, of which no byte lies in the body.
 pub fn copied_body(alloc: Global, parts: BodyParts) -> Result<BodyParts, AllocError>
     ensures same { IfOk result (λ copy. body_parts_view copy ≡ body_parts_view parts) }
     ensures sliced { IfOk result (λ copy. copy.sliced ≡ 0) }

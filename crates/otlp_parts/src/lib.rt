@@ -15,6 +15,8 @@
 
 mod body;
 mod copies;
+mod embedded;
+mod found;
 mod held;
 mod message;
 mod part_text;

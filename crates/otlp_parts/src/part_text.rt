@@ -69,7 +69,7 @@ impl PartText {
         }
     }
 
-    /// The same text, or none. It takes no memory, which no contract says.
+    /// This text once more. It takes no memory, which no contract says.
     fn shared(&self) -> Result<PartText, AllocError>
         ensures { IfOk result (λ shared. shared ≡ self.now) }
     {
@@ -82,7 +82,7 @@ impl PartText {
         }
     }
 
-    /// The same, shared with this one if that is the same.
+    /// This text, shared with the last one where they are the same.
     #[tactic(auto, using(crate::proofs::Same::the_same_text))]
     pub(crate) fn like(self, last: &PartText) -> Result<PartText, AllocError>
         ensures { IfOk result (λ text. text ≡ self) }

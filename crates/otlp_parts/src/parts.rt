@@ -64,7 +64,7 @@ impl ScopeParts {
     ghost use Rattle.std.specs.Prelude.{IfOk};
     ghost use Rattle.otlp_parts.specs.Parts.{scope_parts_view};
 
-    /// The same, whose texts are shared with the scope spans before it where they are the same.
+    /// These parts. Each text is shared with the scope spans before them where it is the same.
     pub(crate) fn like(self, last: Option<&ScopeParts>) -> Result<ScopeParts, AllocError>
         ensures { IfOk result (λ parts. scope_parts_view parts ≡ scope_parts_view self) }
     {
@@ -109,7 +109,8 @@ impl ScopeList {
         }
     }
 
-    /// The same, whose texts are shared with those of the list before it where both are of one and the same.
+    /// These scope spans. Where this list and the one before it are of one scope spans, each text that is the same is
+    /// shared.
     fn like(self, last: &ScopeList) -> Result<ScopeList, AllocError>
         ensures { IfOk result (λ scopes. scopes_in scopes ≡ scopes_in self) }
     {
@@ -139,7 +140,7 @@ impl ResourceParts {
     ghost use Rattle.std.specs.Prelude.{IfOk};
     ghost use Rattle.otlp_parts.specs.Parts.{resource_parts_view};
 
-    /// The same, whose texts are shared with the resource spans before it where they are the same.
+    /// These parts. Each text is shared with the resource spans before them where it is the same.
     pub(crate) fn like(self, last: Option<&ResourceParts>) -> Result<ResourceParts, AllocError>
         ensures { IfOk result (λ parts. resource_parts_view parts ≡ resource_parts_view self) }
     {

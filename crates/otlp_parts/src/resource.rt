@@ -1,22 +1,25 @@
 //! Resource spans, and the resources in them.
 
-ghost use Rattle.std.specs.Prelude.{◌≡◌, ◌≤◌, ◌+◌, Ok, Some, length, map, slice_range, option_map, IfOk};
-ghost use Rattle.otlp_trace.specs.Text.{resource_text};
+ghost use Rattle.std.specs.Prelude.{◌≡◌, ◌≤◌, ◌+◌, Ok, length, map, slice_range, IfOk};
+ghost use Rattle.otlp_trace.specs.Data.{ResourceData, ResourceSpansData};
+ghost use Rattle.otlp_trace.specs.View.{resource_view};
 ghost use Rattle.otlp_read.specs.Fault.{Gives};
-ghost use Rattle.otlp_parts.specs.ReadAs.{resource_in, resource_of, resource_among, another_resource};
+ghost use Rattle.otlp_parts.specs.Embedded.{resource_embedding};
 ghost use Rattle.otlp_parts.specs.Kept.{KeptResource, no_kept_resource, kept_resource_step, kept_resource_texts, kept_scope_texts, scope_spans_onto};
-ghost use Rattle.otlp_parts.specs.Parts.{found_resource_view, resource_reading_view, resource_parts_view, scope_reading_view, scope_parts_view};
-ghost use Rattle.otlp_parts.specs.Sizes.{text_size, texts_size, scope_size, scopes_size, resource_size};
+ghost use Rattle.otlp_parts.specs.Parts.{resource_reading_view, resource_parts_view, scope_reading_view, scope_parts_view};
+ghost use Rattle.otlp_parts.specs.Sizes.{texts_size, scope_size, scopes_size, resource_size};
 
-use crate::held::{FoundResource, ResourceFields, ResourceReading, ResourceText, ScopeReading};
-use crate::message::{as_field, resource_written, string};
+use crate::embedded::{Embedded, found_again, found_text};
+use crate::found::Found;
+use crate::held::{ResourceReading, ScopeReading};
+use crate::message::string;
 use crate::part_text::PartText;
 use crate::parts::{ResourceParts, ScopeList, ScopeParts};
 use crate::scope::{no_scope, scope_parts};
 use crate::walk::{Walked, walk_fields};
 use otlp_canonical::is_resource_text;
 use otlp_read::{ReadFault, read_resource, read_resource_spans};
-use otlp_trace::{ResourceSpans, put_bytes_field};
+use otlp_trace::{Resource, ResourceSpans, write_resource};
 use pb_wire::{Field, Value};
 use std::alloc::Global;
 use std::mem;
@@ -25,132 +28,35 @@ use text_slice::TextSlice;
 /// The levels that a resource in a body has room for, its own among them, and so a scope spans.
 const RESOURCE_ROOM: u32 = 99;
 
-/// A resource as it stands.
-fn first_resource(
-    alloc: Global,
-    text: &TextSlice,
-    start: usize,
-    end: usize,
-) -> Result<ResourceText, ReadFault>
-    requires order { start ≤ end }
-    requires within { end ≤ length text.now }
-    ensures exact { Gives (λ first. resource_of first.bytes) result
-        (resource_in (slice_range text.now start end)) }
-{
-    let bytes = text.slice(start, end)?;
-    if is_resource_text(bytes.as_slice(), RESOURCE_ROOM) {
-        let sliced = bytes.len();
-        let text = bytes.shared()?;
-        return Ok(ResourceText {
-            bytes,
-            text,
-            sliced,
-        });
+impl Embedded for Resource {
+    ghost Data = { ResourceData };
+
+    ghost Holder = { ResourceSpansData };
+
+    ghost embedding = { resource_embedding };
+
+    ghost view = { resource_view };
+
+    fn is_text(bytes: &[u8]) -> bool {
+        is_resource_text(bytes, RESOURCE_ROOM)
     }
-    let resource = read_resource(alloc, bytes.as_slice(), RESOURCE_ROOM)?;
-    let text = resource_written(alloc, &resource)?;
-    Ok(ResourceText {
-        bytes,
-        text,
-        sliced: 0,
-    })
-}
 
-/// The one resource that came, as a field.
-fn resource_fields(alloc: Global, first: ResourceText) -> Result<ResourceFields, ReadFault>
-    ensures exact { Gives (λ several. resource_among several.fields.items) result
-        (Ok (Some (resource_of first.bytes))) }
-{
-    let fields = as_field(alloc, 1, first.bytes.as_slice())?;
-    Ok(ResourceFields { fields })
-}
-
-/// The resources that came, and one more.
-fn with_resource(
-    alloc: Global,
-    several: ResourceFields,
-    bytes: &[u8],
-) -> Result<ResourceFields, ReadFault>
-    ensures exact { Gives (λ several. resource_among several.fields.items) result
-        (another_resource (resource_among several.fields.items) bytes.now) }
-{
-    // Its fault comes before those of fields behind it, so it is looked for at once.
-    let _sound = read_resource(alloc, bytes, RESOURCE_ROOM)?;
-    let mut fields = several.fields;
-    put_bytes_field(&mut fields, 1, bytes)?;
-    Ok(ResourceFields { fields })
-}
-
-/// The resource, and one more that is merged into it.
-fn resource_again(
-    alloc: Global,
-    before: FoundResource,
-    text: &TextSlice,
-    start: usize,
-    end: usize,
-) -> Result<FoundResource, ReadFault>
-    requires order { start ≤ end }
-    requires within { end ≤ length text.now }
-    ensures exact { Gives found_resource_view result
-        (another_resource (found_resource_view before) (slice_range text.now start end)) }
-{
-    match before {
-        FoundResource::Missing => {
-            let first = first_resource(alloc, text, start, end)?;
-            Ok(FoundResource::Once(first))
-        }
-        FoundResource::Once(first) => {
-            let one = resource_fields(alloc, first)?;
-            let several = with_resource(alloc, one, &text.as_slice()[start..end])?;
-            Ok(FoundResource::Again(several))
-        }
-        FoundResource::Again(others) => {
-            let several = with_resource(alloc, others, &text.as_slice()[start..end])?;
-            Ok(FoundResource::Again(several))
-        }
+    fn read(alloc: Global, bytes: &[u8]) -> Result<Resource, ReadFault> {
+        read_resource(alloc, bytes, RESOURCE_ROOM)
     }
-}
 
-/// The canonical text of several resources, merged.
-fn merged_resource_text(
-    alloc: Global,
-    several: ResourceFields,
-) -> Result<Option<TextSlice>, ReadFault>
-    ensures exact { Gives (λ text. text) result
-        (Ok (option_map resource_text (resource_among several.fields.items))) }
-{
-    let ResourceSpans { resource, .. } = read_resource_spans(
-        alloc,
-        several.fields.as_slice(),
-        RESOURCE_ROOM + 1,
-    )?;
-    match resource {
-        Some(resource) => {
-            let text = resource_written(alloc, &resource)?;
-            Ok(Some(text))
-        }
-        None => Ok(None),
+    fn read_held(alloc: Global, fields: &[u8]) -> Result<Option<Resource>, ReadFault> {
+        let ResourceSpans { resource, .. } = read_resource_spans(alloc, fields, RESOURCE_ROOM + 1)?;
+        Ok(resource)
     }
-}
 
-/// The resource's canonical text.
-fn resource_part(
-    alloc: Global,
-    found: FoundResource,
-    sliced: &mut usize,
-) -> Result<Option<TextSlice>, ReadFault>
-    ensures exact { Gives (λ text. text) result
-        (Ok (option_map resource_text (found_resource_view found))) }
-    ensures sliced_within { IfOk result (λ text. sliced.new ≤ sliced.old + text_size text) }
-{
-    match found {
-        FoundResource::Missing => Ok(None),
-        FoundResource::Once(first) => {
-            *sliced = sliced.saturating_add(first.sliced);
-            Ok(Some(first.text))
-        }
-        FoundResource::Again(several) => merged_resource_text(alloc, several),
+    fn written(&self, alloc: Global) -> Result<TextSlice, ReadFault> {
+        let mut text = Vec::new(alloc);
+        write_resource(alloc, &mut text, self)?;
+        Ok(TextSlice::from_vec(alloc, text)?)
     }
+
+    fn merges() {}
 }
 
 /// A resource spans of no fields.
@@ -158,7 +64,7 @@ pub fn no_resource(alloc: Global) -> ResourceReading
     ensures { resource_reading_view result ≡ no_kept_resource }
 {
     ResourceReading {
-        resource: FoundResource::Missing,
+        resource: Found::Missing,
         schema_url: None,
         scopes: Vec::new(alloc),
         invalid: 0,
@@ -179,7 +85,7 @@ pub fn resource_parts(
 {
     let schema_url = PartText::of_url(reading.schema_url);
     *sliced = sliced.saturating_add(schema_url.size());
-    let resource = resource_part(alloc, reading.resource, sliced)?;
+    let resource = found_text::<Resource>(alloc, reading.resource, sliced)?;
     Ok(ResourceParts {
         resource: PartText::of(resource),
         schema_url,
@@ -259,8 +165,8 @@ impl Walked for ResourceReading {
         if let Value::Bytes(bytes) = field.value {
             let start = end - bytes.len();
             if field.number == 1 {
-                let before = mem::replace(&mut self.resource, FoundResource::Missing);
-                self.resource = resource_again(alloc, before, text, start, end)?;
+                let before = mem::replace(&mut self.resource, Found::Missing);
+                self.resource = found_again::<Resource>(alloc, before, text, start, end)?;
                 return Ok(());
             }
             if field.number == 2 {

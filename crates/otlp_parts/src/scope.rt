@@ -1,22 +1,25 @@
 //! Scope spans, and the instrumentation scopes in them.
 
-ghost use Rattle.std.specs.Prelude.{◌≡◌, ◌≤◌, ◌+◌, Ok, Some, length, slice_range, option_map, IfOk};
-ghost use Rattle.otlp_trace.specs.Text.{scope_text};
+ghost use Rattle.std.specs.Prelude.{◌≡◌, ◌≤◌, ◌+◌, Ok, length, slice_range, IfOk};
+ghost use Rattle.otlp_trace.specs.Data.{ScopeData, ScopeSpansData};
+ghost use Rattle.otlp_trace.specs.View.{scope_view};
 ghost use Rattle.otlp_read.specs.Fault.{Gives};
-ghost use Rattle.otlp_parts.specs.ReadAs.{scope_in, scope_of, scope_among, another_scope};
+ghost use Rattle.otlp_parts.specs.Embedded.{scope_embedding};
 ghost use Rattle.otlp_parts.specs.Kept.{KeptScope, no_kept_scope, kept_scope_step, kept_scope_texts, span_onto};
-ghost use Rattle.otlp_parts.specs.Parts.{found_scope_view, scope_reading_view, scope_parts_view};
-ghost use Rattle.otlp_parts.specs.Sizes.{text_size, texts_size, scope_size};
+ghost use Rattle.otlp_parts.specs.Parts.{scope_reading_view, scope_parts_view};
+ghost use Rattle.otlp_parts.specs.Sizes.{texts_size, scope_size};
 
-use crate::held::{FoundScope, ScopeFields, ScopeReading, ScopeText};
-use crate::message::{as_field, scope_written, string};
+use crate::embedded::{Embedded, found_again, found_text};
+use crate::found::Found;
+use crate::held::ScopeReading;
+use crate::message::string;
 use crate::part_text::PartText;
 use crate::parts::{ScopeParts, SpanTexts};
 use crate::span::span_part;
 use crate::walk::Walked;
 use otlp_canonical::is_scope_text;
 use otlp_read::{ReadFault, read_scope, read_scope_spans};
-use otlp_trace::{ScopeSpans, put_bytes_field};
+use otlp_trace::{InstrumentationScope, ScopeSpans, write_scope};
 use pb_wire::{Field, Value};
 use std::alloc::Global;
 use std::mem;
@@ -25,125 +28,35 @@ use text_slice::TextSlice;
 /// The levels that a scope in a body has room for, its own among them.
 const SCOPE_ROOM: u32 = 98;
 
-/// A scope as it stands.
-fn first_scope(
-    alloc: Global,
-    text: &TextSlice,
-    start: usize,
-    end: usize,
-) -> Result<ScopeText, ReadFault>
-    requires order { start ≤ end }
-    requires within { end ≤ length text.now }
-    ensures exact { Gives (λ first. scope_of first.bytes) result
-        (scope_in (slice_range text.now start end)) }
-{
-    let bytes = text.slice(start, end)?;
-    if is_scope_text(bytes.as_slice(), SCOPE_ROOM) {
-        let sliced = bytes.len();
-        let text = bytes.shared()?;
-        return Ok(ScopeText {
-            bytes,
-            text,
-            sliced,
-        });
+impl Embedded for InstrumentationScope {
+    ghost Data = { ScopeData };
+
+    ghost Holder = { ScopeSpansData };
+
+    ghost embedding = { scope_embedding };
+
+    ghost view = { scope_view };
+
+    fn is_text(bytes: &[u8]) -> bool {
+        is_scope_text(bytes, SCOPE_ROOM)
     }
-    let scope = read_scope(alloc, bytes.as_slice(), SCOPE_ROOM)?;
-    let text = scope_written(alloc, &scope)?;
-    Ok(ScopeText {
-        bytes,
-        text,
-        sliced: 0,
-    })
-}
 
-/// The one scope that came, as a field.
-fn scope_fields(alloc: Global, first: ScopeText) -> Result<ScopeFields, ReadFault>
-    ensures exact { Gives (λ several. scope_among several.fields.items) result
-        (Ok (Some (scope_of first.bytes))) }
-{
-    let fields = as_field(alloc, 1, first.bytes.as_slice())?;
-    Ok(ScopeFields { fields })
-}
-
-/// The scopes that came, and one more.
-fn with_scope(alloc: Global, several: ScopeFields, bytes: &[u8]) -> Result<ScopeFields, ReadFault>
-    ensures exact { Gives (λ several. scope_among several.fields.items) result
-        (another_scope (scope_among several.fields.items) bytes.now) }
-{
-    // Its fault comes before those of fields behind it, so it is looked for at once.
-    let _sound = read_scope(alloc, bytes, SCOPE_ROOM)?;
-    let mut fields = several.fields;
-    put_bytes_field(&mut fields, 1, bytes)?;
-    Ok(ScopeFields { fields })
-}
-
-/// The scope, and one more that is merged into it.
-fn scope_again(
-    alloc: Global,
-    before: FoundScope,
-    text: &TextSlice,
-    start: usize,
-    end: usize,
-) -> Result<FoundScope, ReadFault>
-    requires order { start ≤ end }
-    requires within { end ≤ length text.now }
-    ensures exact { Gives found_scope_view result
-        (another_scope (found_scope_view before) (slice_range text.now start end)) }
-{
-    match before {
-        FoundScope::Missing => {
-            let first = first_scope(alloc, text, start, end)?;
-            Ok(FoundScope::Once(first))
-        }
-        FoundScope::Once(first) => {
-            let one = scope_fields(alloc, first)?;
-            let several = with_scope(alloc, one, &text.as_slice()[start..end])?;
-            Ok(FoundScope::Again(several))
-        }
-        FoundScope::Again(others) => {
-            let several = with_scope(alloc, others, &text.as_slice()[start..end])?;
-            Ok(FoundScope::Again(several))
-        }
+    fn read(alloc: Global, bytes: &[u8]) -> Result<InstrumentationScope, ReadFault> {
+        read_scope(alloc, bytes, SCOPE_ROOM)
     }
-}
 
-/// The canonical text of several scopes, merged.
-fn merged_scope_text(alloc: Global, several: ScopeFields) -> Result<Option<TextSlice>, ReadFault>
-    ensures exact { Gives (λ text. text) result
-        (Ok (option_map scope_text (scope_among several.fields.items))) }
-{
-    let ScopeSpans { scope, .. } = read_scope_spans(
-        alloc,
-        several.fields.as_slice(),
-        SCOPE_ROOM + 1,
-    )?;
-    match scope {
-        Some(scope) => {
-            let text = scope_written(alloc, &scope)?;
-            Ok(Some(text))
-        }
-        None => Ok(None),
+    fn read_held(alloc: Global, fields: &[u8]) -> Result<Option<InstrumentationScope>, ReadFault> {
+        let ScopeSpans { scope, .. } = read_scope_spans(alloc, fields, SCOPE_ROOM + 1)?;
+        Ok(scope)
     }
-}
 
-/// The scope's canonical text.
-fn scope_part(
-    alloc: Global,
-    found: FoundScope,
-    sliced: &mut usize,
-) -> Result<Option<TextSlice>, ReadFault>
-    ensures exact { Gives (λ text. text) result
-        (Ok (option_map scope_text (found_scope_view found))) }
-    ensures sliced_within { IfOk result (λ text. sliced.new ≤ sliced.old + text_size text) }
-{
-    match found {
-        FoundScope::Missing => Ok(None),
-        FoundScope::Once(first) => {
-            *sliced = sliced.saturating_add(first.sliced);
-            Ok(Some(first.text))
-        }
-        FoundScope::Again(several) => merged_scope_text(alloc, several),
+    fn written(&self, alloc: Global) -> Result<TextSlice, ReadFault> {
+        let mut text = Vec::new(alloc);
+        write_scope(alloc, &mut text, self)?;
+        Ok(TextSlice::from_vec(alloc, text)?)
     }
+
+    fn merges() {}
 }
 
 /// A scope spans of no fields.
@@ -151,7 +64,7 @@ pub fn no_scope(alloc: Global) -> ScopeReading
     ensures { scope_reading_view result ≡ no_kept_scope }
 {
     ScopeReading {
-        scope: FoundScope::Missing,
+        scope: Found::Missing,
         schema_url: None,
         spans: Vec::new(alloc),
         invalid: 0,
@@ -172,7 +85,7 @@ pub fn scope_parts(
 {
     let schema_url = PartText::of_url(reading.schema_url);
     *sliced = sliced.saturating_add(schema_url.size());
-    let scope = scope_part(alloc, reading.scope, sliced)?;
+    let scope = found_text::<InstrumentationScope>(alloc, reading.scope, sliced)?;
     Ok(ScopeParts {
         scope: PartText::of(scope),
         schema_url,
@@ -229,8 +142,8 @@ impl Walked for ScopeReading {
         if let Value::Bytes(bytes) = field.value {
             let start = end - bytes.len();
             if field.number == 1 {
-                let before = mem::replace(&mut self.scope, FoundScope::Missing);
-                self.scope = scope_again(alloc, before, text, start, end)?;
+                let before = mem::replace(&mut self.scope, Found::Missing);
+                self.scope = found_again::<InstrumentationScope>(alloc, before, text, start, end)?;
                 return Ok(());
             }
             if field.number == 2 {

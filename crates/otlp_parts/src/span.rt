@@ -63,7 +63,7 @@ fn is_valid(span: &Span) -> bool
     is_id(span.trace_id.as_slice(), 16) && is_id(span.span_id.as_slice(), 8)
 }
 
-/// The same of a span's canonical text.
+/// Whether the ids of the span of a canonical text are as they have to be.
 fn is_valid_text(text: &[u8]) -> bool
     requires canonical { CanonicalSpan 98 text.now }
     ensures { result ≡ is_valid_span (span_of text.now) }

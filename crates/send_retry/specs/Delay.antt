@@ -36,11 +36,11 @@ spread state = state.interval * state.settings.randomization_factor / 1000
 abbrev pub picked : StateData → ℕ → ℕ
 picked state word = state.interval - spread state + (2 * spread state + 1) * word / 2 ^ 32
 
--- and at least as long as the back end asked for, in seconds
+-- the delay that a word picks, or the wait that the back end asked for, in seconds, where that is longer
 abbrev pub delay_of : StateData → ℕ → ℕ → ℕ
 delay_of state word wait = max (picked state word) (1000 * wait)
 
--- the same with another interval
+-- a state with another interval
 abbrev pub with_interval : ℕ → StateData → StateData
 with_interval interval state = record state { interval = interval }
 

@@ -1,2 +1,3 @@
 pub mod Class
 pub mod Delay
+pub mod Law

@@ -10,6 +10,8 @@
 //! exporterhelper.
 #![tactic(auto)]
 
+ghost use Rattle.send_retry.specs.Law.{RefusalsAreForGood, PickedAreNear};
+
 mod answer;
 mod delay;
 mod state;
@@ -17,3 +19,15 @@ mod state;
 pub use answer::{Answer, Verdict, classify, equal_answers, equal_verdicts};
 pub use delay::{NextDelay, next_delay};
 pub use state::RetryState;
+
+/// A batch is refused for good by an answer whose status is no success and none of 429, 502, 503 and 504, and by no
+/// other: a law over the definitions.
+pub fn refusals_are_for_good()
+    ensures { RefusalsAreForGood }
+{}
+
+/// The words of 32 bits pick the delays that lie no further from the interval than its spread, each of them and no
+/// other: a law over the definitions.
+pub fn delays_are_near()
+    ensures { PickedAreNear }
+{}

@@ -39,7 +39,7 @@ impl RetryState {
         self.interval - spread + (2 * spread + 1) * u64::from(word) / (1 << 32)
     }
 
-    /// The same with the interval after this one.
+    /// The state for the answer to the next attempt: it has the interval after this one.
     pub(crate) fn with_next_interval(&self) -> RetryState
         ensures { state_view result ≡ with_interval (next_interval (state_view self.now))
             (state_view self.now) }

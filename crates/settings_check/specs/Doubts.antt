@@ -1,14 +1,16 @@
 -- What is doubtful in settings that are good: they load, and most likely won't do what was meant. This project's own
 -- rule.
-use Rattle.std.specs.Prelude.{codes, ℕ, List, [], ◌∷◌, ◌++◌, ◌-◌, ◌*◌, ◌/◌, Bool, ◌||◌, ◌==◌, length, sum_by, nat_le, Option, Some, None, Result, Ok, Err, if◌then◌else◌}
+use Rattle.std.specs.Prelude.{codes, ℕ, List, [], ◌∷◌, ◌++◌, ◌-◌, ◌*◌, ◌/◌, Bool, ◌||◌, ◌==◌, length, sum_by, nat_le, int_le, Option, Some, None, Result, Ok, Err, if◌then◌else◌}
 use Rattle.std.specs.Fmt.{decimal}
 use Rattle.std.specs.Str.{bytes_eq}
 use Rattle.tail_settings.specs.Batch.{BatchData}
 use Rattle.tail_settings.specs.Fault.{FaultData}
+use Rattle.tail_settings.specs.Policy.{LeafData, PolicyData, always_sample, latency, status_code, string_attribute, numeric_attribute, leaf, and}
 use Rattle.tail_settings.specs.RetryOnFailure.{RetryData}
 use Rattle.tail_settings.specs.Section.{SectionData}
 use Rattle.tail_settings.specs.Settings.{TenantData, SettingsData}
 use Rattle.settings_check.specs.Address.{address_fault}
+use Rattle.settings_check.specs.Shown.{shown}
 
 -- the line of what is wrong with an address, behind the words of whose it is
 abbrev pub wrong_line : List ℕ → List ℕ → Option (List ℕ) → List ℕ
@@ -90,11 +92,38 @@ retry_line name retry =
     ++ codes ", and the delay before a retry is at least " ++ decimal (least_delay retry)
     ++ codes " ms: no batch is sent again\n"
 
+-- the line of a policy whose bounds no number lies within
+abbrev pub bounds_line : List ℕ → LeafData → List ℕ
+bounds_line name always_sample = []
+bounds_line name (latency threshold) = []
+bounds_line name (status_code statuses) = []
+bounds_line name (string_attribute key values) = []
+bounds_line name (numeric_attribute key low high) =
+    if int_le low high then []
+    else codes "warning: tenant " ++ name ++ codes ": the numeric_attribute policy of the key " ++ shown key
+    ++ codes " has a min_value above its max_value: it keeps nothing\n"
+
+-- the lines of policies that hold no other
+abbrev pub leaf_lines : List ℕ → List LeafData → List ℕ
+leaf_lines name [] = []
+leaf_lines name (l ∷ ls) = bounds_line name l ++ leaf_lines name ls
+
+-- the lines of a policy
+abbrev pub policy_lines : List ℕ → PolicyData → List ℕ
+policy_lines name (leaf l) = bounds_line name l
+policy_lines name (and ls) = leaf_lines name ls
+
+-- the lines of policies
+abbrev pub lines_of_policies : List ℕ → List PolicyData → List ℕ
+lines_of_policies name [] = []
+lines_of_policies name (p ∷ ps) = policy_lines name p ++ lines_of_policies name ps
+
 -- the lines of a tenant of this name
 unfoldable pub tenant_lines : List ℕ → List ℕ → SectionData → List ℕ
 tenant_lines listen name section =
     endpoint_line name section.endpoint ++ own_line listen name section.endpoint
     ++ spans_line name section.max_spans section.batch ++ retry_line name section.retry_on_failure
+    ++ lines_of_policies name section.tail_sampling.policies
 
 -- the lines of tenants
 abbrev pub lines_of_tenants : List ℕ → List TenantData → List ℕ

@@ -39,7 +39,7 @@ with_cache cache rest = holding (codes "tail_sampling") (member (codes "decision
 abbrev pub ReadsAlike : {A : Type 0} → TableKind → (Members → Result A FaultData) → Type 0
 ReadsAlike kind read = (one other : Members) → Agree kind one other → read one ≡ read other
 
--- the same of each kind of table; of a policy by the kind of the first
+-- tables of each kind that agree are read as the same, policies that agree by the kind of the first
 pub record UnknownMeanNothing : Type 0 where
   pub document : ReadsAlike kinds.Document settings_of_table
   pub global : ReadsAlike kinds.Global (λ t. global_of (holding (codes "global") t))

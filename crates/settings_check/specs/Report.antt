@@ -28,7 +28,7 @@ abbrev pub IsReport : List ℕ → Bool → List ℕ → List ℕ → Type 0
 IsReport text is_good report doubts =
     Reports (parse_document text) (settings_of text) is_good report × (doubts ≡ doubts_in (settings_of text))
 
--- the same of a file's bytes, which are a text or not
+-- the report on a file's bytes, which are a text or not, and what is doubtful in the settings that they mean
 pub record IsFileReport (bytes : List ℕ) (is_good : Bool) (report doubts : List ℕ) : Type 0 where
   pub text : IsUtf8 bytes → IsReport bytes is_good report doubts
   pub no_text : (IsUtf8 bytes → ⊥) → (is_good ≡ false) × (report ≡ codes "settings fault 10\nthe file is not UTF-8\n")

@@ -1,17 +1,19 @@
 //! What is doubtful in settings that are good.
 
-ghost use Rattle.std.specs.Prelude.{◌≡◌, ◌++◌, IfOk, OnOk, string_bytes};
+ghost use Rattle.std.specs.Prelude.{◌≡◌, ◌++◌, map, IfOk, OnOk, string_bytes};
 ghost use Rattle.std.specs.Str.{bytes_eq};
 ghost use Rattle.tail_settings.specs.Batch.{batch_view};
+ghost use Rattle.tail_settings.specs.Policy.{leaf_view, policy_view};
 ghost use Rattle.tail_settings.specs.RetryOnFailure.{retry_view};
 ghost use Rattle.tail_settings.specs.Section.{section_view};
 ghost use Rattle.tail_settings.specs.Settings.{settings_view};
-ghost use Rattle.settings_check.specs.Doubts.{address_line, endpoint_line, receivers_line, consumers_of, senders_line, has_purpose, header_line, own_line, spans_line, least_delay, retry_line, tenant_lines, lines_of_tenants, doubts_of};
+ghost use Rattle.settings_check.specs.Doubts.{address_line, endpoint_line, receivers_line, consumers_of, senders_line, has_purpose, header_line, own_line, spans_line, least_delay, retry_line, bounds_line, leaf_lines, policy_lines, lines_of_policies, tenant_lines, lines_of_tenants, doubts_of};
 
 use crate::address::address_fault;
+use crate::shown::shown;
 use crate::unknown::joined;
 use std::alloc::{AllocError, Global};
-use tail_settings::{Batch, RetryOnFailure, Section, Settings};
+use tail_settings::{Batch, LeafPolicy, PolicySpec, RetryOnFailure, Section, Settings};
 
 /// The line of a text that can't be an address, behind the words of whose address it is to be; nothing of any other.
 fn address_line(alloc: Global, place: &str, address: &str) -> Result<String, AllocError>
@@ -162,6 +164,70 @@ fn retry_line(alloc: Global, name: &str, retry: RetryOnFailure) -> Result<String
     Ok(line)
 }
 
+/// The line of a policy whose bounds no number lies within; nothing of any other.
+fn bounds_line(alloc: Global, name: &str, leaf: &LeafPolicy) -> Result<String, AllocError>
+    ensures { IfOk result (λ line. string_bytes line ≡ bounds_line name.now (leaf_view leaf.now)) }
+{
+    let LeafPolicy::NumericAttribute {
+        key,
+        min_value,
+        max_value,
+    } = leaf
+    else {
+        return Ok(String::new(alloc));
+    };
+    if *min_value <= *max_value {
+        return Ok(String::new(alloc));
+    }
+    let key = shown(alloc, key.as_str())?;
+    let line = format!(in alloc;
+        "warning: tenant {name}: the numeric_attribute policy of the key {key} has a min_value above its max_value: it \
+         keeps nothing\n"
+    )?;
+    Ok(line)
+}
+
+/// The lines of policies that hold no others.
+fn leaf_lines(alloc: Global, name: &str, leaves: &[LeafPolicy]) -> Result<String, AllocError>
+    ensures { IfOk result (λ lines. string_bytes lines
+        ≡ leaf_lines name.now (map leaf_view leaves.now)) }
+{
+    let mut lines = String::new(alloc);
+    for leaf in leaves {
+        let line = bounds_line(alloc, name, leaf)?;
+        lines.push_str(line.as_str())?;
+    }
+    Ok(lines)
+}
+
+/// The lines of a policy and of those that it holds.
+fn policy_lines(alloc: Global, name: &str, policy: &PolicySpec) -> Result<String, AllocError>
+    ensures { IfOk result (λ lines. string_bytes lines
+        ≡ policy_lines name.now (policy_view policy.now)) }
+{
+    match policy {
+        PolicySpec::Leaf(leaf) => bounds_line(alloc, name, leaf),
+        PolicySpec::And(leaves) => leaf_lines(alloc, name, leaves.as_slice()),
+    }
+}
+
+/// The lines of policies.
+fn lines_of_policies(
+    alloc: Global,
+    name: &str,
+    policies: &[PolicySpec],
+) -> Result<String, AllocError>
+    ensures { IfOk result (λ lines. string_bytes lines
+        ≡ lines_of_policies name.now (map policy_view policies.now)) }
+{
+    let mut lines = String::new(alloc);
+    for policy in policies {
+        let more = policy_lines(alloc, name, policy)?;
+        lines.push_str(more.as_str())?;
+    }
+    Ok(lines)
+}
+
 /// The lines of a tenant.
 fn tenant_lines(
     alloc: Global,
@@ -178,7 +244,9 @@ fn tenant_lines(
     let retry = retry_line(alloc, name, section.retry_on_failure)?;
     let addresses = joined(alloc, endpoint.as_str(), own.as_str())?;
     let head = joined(alloc, addresses.as_str(), spans.as_str())?;
-    let lines = joined(alloc, head.as_str(), retry.as_str())?;
+    let numbers = joined(alloc, head.as_str(), retry.as_str())?;
+    let policies = lines_of_policies(alloc, name, section.tail_sampling.policies.as_slice())?;
+    let lines = joined(alloc, numbers.as_str(), policies.as_str())?;
     Ok(lines)
 }
 

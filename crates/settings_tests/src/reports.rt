@@ -67,14 +67,23 @@ type = \"always_sample\"
 
 /// A document that has each doubt: a listener without a port, fewer receivers than tenants, fewer senders than the
 /// twelve consumers, a field that no request has for a name, back ends with a scheme, without a host and at the
-/// listener, fewer spans than a batch is cut at, and retries that all come too late.
+/// listener, fewer spans than a batch is cut at, retries that all come too late, and policies that keep nothing, of
+/// which two are parts of a third.
 const DOUBTFUL: &str = "tenant = [
     { name = \"a\", endpoint = \"http://10.0.0.1:4318\", tail_sampling.policy = [{ type = \"always_sample\" }] },
     { name = \"b\", endpoint = \":4318\", sending_queue.num_consumers = 1, max_spans = 8191,
       tail_sampling.policy = [{ type = \"always_sample\" }] },
     { name = \"c\", endpoint = \"127.0.0.1\", sending_queue.num_consumers = 1, max_spans = 2, batch.send_batch_size = 3,
       retry_on_failure = { initial_interval_ms = 60000, max_elapsed_time_ms = 10 },
-      tail_sampling.policy = [{ type = \"always_sample\" }] },
+      tail_sampling.policy = [
+        { type = \"numeric_attribute\", key = \"status\", min_value = -1, max_value = -2 },
+        { type = \"numeric_attribute\", key = \"port\", min_value = 80, max_value = 80 },
+        { type = \"and\", and_sub_policy = [
+          { type = \"numeric_attribute\", key = \"rows\", min_value = 2, max_value = 1 },
+          { type = \"latency\", threshold_ms = 1 },
+          { type = \"numeric_attribute\", key = \"b\\u00fccher\", min_value = 1, max_value = 0 },
+        ] },
+      ] },
 ]
 global = { listen = \"127.0.0.1\", receivers = 1, senders = 10, tenant_header = \"host\" }
 ";
@@ -96,6 +105,10 @@ warning: tenant c: endpoint is 127.0.0.1, as listen is: the service would post t
 warning: tenant c: max_spans is 2, and send_batch_size is 3: a batch is cut by timeout_ms alone, and posts can \
      get 429 until then
 warning: tenant c: max_elapsed_time_ms is 10, and the delay before a retry is at least 30000 ms: no batch is sent again
+warning: tenant c: the numeric_attribute policy of the key status has a min_value above its max_value: it keeps nothing
+warning: tenant c: the numeric_attribute policy of the key rows has a min_value above its max_value: it keeps nothing
+warning: tenant c: the numeric_attribute policy of the key b\\xc3\\xbccher has a min_value above its max_value: it \
+     keeps nothing
 ";
 
 #[test]

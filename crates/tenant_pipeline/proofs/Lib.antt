@@ -2,7 +2,8 @@ pub mod Taking
 pub mod Keys
 pub mod Origins
 pub mod Posting
-pub mod Full
+pub mod Before
+pub mod Holds
 pub mod Sweeping
 pub mod Spans
 pub mod Grouping

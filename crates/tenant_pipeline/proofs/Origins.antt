@@ -1,8 +1,8 @@
 -- Texts of origins that are held for the spans of a body.
-use Rattle.std.proofs.Common.{◌≡◌, ℕ, zero, suc, ◌+◌, ◌<◌, List, [], ◌∷◌, ◌++◌, length, map, drop, get_or, refl, sym, ap, subst, ◌∙◌, arith, append_assoc, append-nil, Option, Some, None}
-use Rattle.std.proofs.lemmas.List.{map-append, drop_more}
+use Rattle.std.proofs.Common.{◌≡◌, ℕ, zero, suc, ◌<◌, List, [], ◌∷◌, ◌++◌, length, get_or, refl, sym, ap, subst, ◌∙◌, arith, append_assoc, append-nil, Option, Some, None}
+use Rattle.std.proofs.lemmas.List.{map-append}
 use Rattle.std.specs.Prelude.{option_to_list}
-use Rattle.span_pool.specs.Stored.{OwnedKeys, Origin as OriginData, bytes_of, origin_at}
+use Rattle.span_pool.specs.Stored.{OwnedKeys, bytes_of, origin_at}
 use Rattle.span_pool.specs.Stored as keyed
 use Rattle.span_pool.specs.declared.keys.TextKeys.{TextKeys}
 use Rattle.tail_policy.specs.declared.note.TraceNote.{TraceNote}
@@ -12,13 +12,10 @@ use Rattle.tenant_stores.specs.Part.{Part}
 use Rattle.tenant_stores.specs.Shows.{AreAmong}
 use Rattle.tenant_stores.specs.Invariant.{StoreInvariant}
 use Rattle.tenant_stores.specs.Trail.{HoldsAll}
-use Rattle.tenant_stores.specs.View.{text_at, text_keys, view}
+use Rattle.tenant_stores.specs.View.{text_keys, view}
 use Rattle.tenant_stores.proofs.Held.{four_parts}
 use Rattle.tenant_stores.proofs.Lists.{count-append, count-self}
 use Rattle.tenant_stores.proofs.Parts.{all_released-append, part_by}
-use Rattle.otlp_prepare.specs.Arrivals.{origin_view}
-use Rattle.otlp_prepare.specs.Arrivals as prepared
-use Rattle.otlp_prepare.specs.Origin.{OriginTexts}
 use Rattle.tenant_pipeline.specs.Posts.{all_keys, all_text_keys, keys_at}
 
 -- ---- keys
@@ -65,71 +62,6 @@ origin_stays f g keys same =
     let scope_url = one_stays f g keys.scope_schema_url (λ t some. same t (let e = four_parts keys t in omega (arith, e, some))) in
     λ i. record { resource = resource i; resource_schema_url = bytes_of (resource_url i); scope = scope i; scope_schema_url = bytes_of (scope_url i) }
 
-pub origins_stay : (f g : ℕ → Option (List ℕ)) (all : List TextKeys) → ((t : ℕ) → 0 < count t (all_text_keys all) → g t ≡ f t) → map (origin_at g) all ≡ map (origin_at f) all
-origins_stay f g [] same = refl
-origins_stay f g (keys ∷ all) same =
-    let one = origin_stays f g keys (λ t some. same t (let both = count-append t (all_text_keys all) (text_keys keys) in omega (arith, both, some))) in
-    let rest = origins_stay f g all (λ t some. same t (let both = count-append t (all_text_keys all) (text_keys keys) in omega (arith, both, some))) in
-    λ i. one i ∷ rest i
-
--- ---- all origins are held, one after the other
-
--- those of the first origins are held, at these keys
-pub record AreHeld (origins : List OriginTexts) (index : ℕ) (all : List TextKeys) (start p : Part TraceNote) : Type 0 where
-  pub own : (n : Counts) (pending held : List ℕ) → StoreInvariant n pending held start → HoldsAll (all_text_keys all) start p
-  pub sound : (n : Counts) (pending held : List ℕ) → StoreInvariant n pending held start → StoreInvariant n pending (all_text_keys all ++ held) p
-  pub texts : (n : Counts) (pending held : List ℕ) → StoreInvariant n pending held start → map (origin_at (text_at p.texts)) all ++ map origin_view (drop index origins) ≡ map origin_view origins
-  pub shows : (n : Counts) (pending held shown : List ℕ) → StoreInvariant n pending held start → AreAmong shown pending → view n shown p ≡ view n shown start
-
-module _ (origins : List OriginTexts) (index : ℕ) (all : List TextKeys) (keys : TextKeys) (start p q : Part TraceNote) (front : AreHeld origins index all start p)
-    (own : (n : Counts) (pending held : List ℕ) → StoreInvariant n pending held p → HoldsAll (text_keys keys) p q)
-    (is_sound : (n : Counts) (pending held : List ℕ) → StoreInvariant n pending held p → StoreInvariant n pending (text_keys keys ++ held) q)
-    (shows : (n : Counts) (pending held shown : List ℕ) → StoreInvariant n pending held p → AreAmong shown pending → view n shown q ≡ view n shown p)
-    (stay : (n : Counts) (pending held : List ℕ) → StoreInvariant n pending held p → (key : ℕ) → 0 < count key held → text_at q.texts key ≡ text_at p.texts key)
-  where
-    more_own : (n : Counts) (pending held : List ℕ) → StoreInvariant n pending held start → HoldsAll (all_text_keys (all ++ keys ∷ [])) start q
-    more_own n pending held sound =
-        let first = front.own n pending held sound in
-        let last = own n pending (all_text_keys all ++ held) (front.sound n pending held sound) in
-        subst (λ (ks : List ℕ). HoldsAll ks start q) (sym (keys-push all keys)) (record {
-          spans = last.spans ∙ first.spans;
-          texts = all_released-append (text_keys keys) (all_text_keys all) q.texts ∙ (ap (all_released (all_text_keys all)) last.texts ∙ first.texts);
-          rows = last.rows ∙ first.rows;
-          latest_rows = last.latest_rows ∙ first.latest_rows;
-        })
-
-    more_sound : (n : Counts) (pending held : List ℕ) → StoreInvariant n pending held start → StoreInvariant n pending (all_text_keys (all ++ keys ∷ []) ++ held) q
-    more_sound n pending held sound =
-        subst (λ (ks : List ℕ). StoreInvariant n pending ks q) (sym (keys-push_held all keys held)) (is_sound n pending (all_text_keys all ++ held) (front.sound n pending held sound))
-
-    more_texts : (origin : OriginTexts) → origin ≡ get_or origins index origin → index < length origins →
-        ((n : Counts) (pending held : List ℕ) → StoreInvariant n pending held p → origin_at (text_at q.texts) keys ≡ origin_view origin) →
-        (n : Counts) (pending held : List ℕ) → StoreInvariant n pending held start → map (origin_at (text_at q.texts)) (all ++ keys ∷ []) ++ map origin_view (drop (index + 1) origins) ≡ map origin_view origins
-    more_texts origin item within text n pending held sound =
-        let behind = all_text_keys all ++ held in
-        let reached = front.sound n pending held sound in
-        let stays = origins_stay (text_at p.texts) (text_at q.texts) all (λ t some. stay n pending behind reached t (let both = count-append t (all_text_keys all) held in omega (arith, both, some))) in
-        let here = text n pending behind reached in
-        let rest = map origin_view (drop (index + 1) origins) in
-        let next : drop index origins ≡ origin ∷ drop (index + 1) origins = drop_more origins index origin within ∙ ap (λ (x : OriginTexts). x ∷ drop (index + 1) origins) (sym item) in
-        ap (λ (xs : List OriginData). xs ++ rest) (map-append (origin_at (text_at q.texts)) all (keys ∷ []))
-        ∙ (append_assoc (map (origin_at (text_at q.texts)) all) (origin_at (text_at q.texts) keys ∷ []) rest
-        ∙ (ap (λ (xs : List OriginData). xs ++ (origin_at (text_at q.texts) keys ∷ rest)) stays
-        ∙ (ap (λ (x : OriginData). map (origin_at (text_at p.texts)) all ++ (x ∷ rest)) here
-        ∙ (ap (λ (xs : List OriginTexts). map (origin_at (text_at p.texts)) all ++ map origin_view xs) (sym next)
-        ∙ front.texts n pending held sound))))
-
-    pub one_more_held : (origin : OriginTexts) (all' : List TextKeys) → origin ≡ get_or origins index origin → all' ≡ all ++ keys ∷ [] → index < length origins →
-        ((n : Counts) (pending held : List ℕ) → StoreInvariant n pending held p → origin_at (text_at q.texts) keys ≡ origin_view origin) →
-        AreHeld origins (index + 1) all' start q
-    one_more_held origin all' item pushed within text = subst (λ (ks : List TextKeys). AreHeld origins (index + 1) ks start q) (sym pushed) (record {
-      own = more_own;
-      sound = more_sound;
-      texts = more_texts origin item within text;
-      shows = λ n pending held shown sound among.
-          shows n pending (all_text_keys all ++ held) shown (front.sound n pending held sound) among ∙ front.shows n pending held shown sound among;
-    })
-
 -- ---- and given back, the last first
 
 -- what these keys' texts were held for holds of the rest of them
@@ -171,24 +103,3 @@ one_less_held all left front keys old p q popped was own is_sound shows =
 pub given_back : (p start : Part TraceNote) → HoldsAll [] start p → p ≡ start
 given_back p start holds =
     part_by p.spans start.spans p.texts start.texts p.rows start.rows p.latest_rows start.latest_rows holds.spans holds.texts holds.rows holds.latest_rows
-
--- ---- the origin of a span
-
--- texts at keys, where they are those of origins, at an index
-pub origin_is : (f : ℕ → Option (List ℕ)) (all : List TextKeys) (origins : List OriginTexts) (index : ℕ) → map (origin_at f) all ≡ map origin_view origins → index < length origins →
-    origin_at f (keys_at all index) ≡ prepared.origin_at origins index
-origin_is f all [] index same within = absurd (omega arith)
-origin_is f [] (origin ∷ origins) index same within = cc
-origin_is f (keys ∷ all) (origin ∷ origins) zero same within = cc
-origin_is f (keys ∷ all) (origin ∷ origins) (suc index) same within =
-    let rest : map (origin_at f) all ≡ map origin_view origins = cc in
-    origin_is f all origins index rest (omega (arith, within))
-
--- as many keys as origins
-pub as_many : (f : ℕ → Option (List ℕ)) (all : List TextKeys) (origins : List OriginTexts) → map (origin_at f) all ≡ map origin_view origins → length all ≡ length origins
-as_many f [] [] same = refl
-as_many f [] (origin ∷ origins) same = cc
-as_many f (keys ∷ all) [] same = cc
-as_many f (keys ∷ all) (origin ∷ origins) same =
-    let rest : map (origin_at f) all ≡ map origin_view origins = cc in
-    ap suc (as_many f all origins rest)

@@ -1,13 +1,10 @@
 -- The spans of a post come over the stores, one after the other, and what holds of the tenant on the way.
-use Rattle.std.proofs.Common.{◌≡◌, ◌<◌, ◌≤◌, ◌+◌, ◌-◌, ◌++◌, ◌∙◌, ℕ, zero, suc, List, [], ◌∷◌, length, map, drop, get_or, refl, sym, ap, subst, arith, append-nil, Bool, true, false, cond}
+use Rattle.std.proofs.Common.{◌≡◌, ◌<◌, ◌≤◌, ◌+◌, ◌-◌, ◌++◌, ◌∙◌, ℕ, zero, suc, List, [], ◌∷◌, length, drop, get_or, refl, sym, ap, subst, arith, append-nil, Bool, true, false, cond}
 use Rattle.std.specs.List.{AllByRecursion}
 use Rattle.std.specs.Prelude.{nat_lt, ◌==◌, Result, Ok, Err, OnOk, OnErr}
 use Rattle.std.proofs.lemmas.List.{length-map, drop_more, drop_all}
 use Rattle.drop_ledger.specs.Ledger.{LedgerData, counted, left_out, most_counted}
-use Rattle.span_pool.specs.Stored.{Origin as OriginData, OwnedKeys, origin_at}
-use Rattle.span_pool.specs.declared.keys.TextKeys.{TextKeys}
 use Rattle.tail_policy.specs.declared.note.TraceNote.{TraceNote}
-use Rattle.tail_policy.specs.Note.{note_of}
 use Rattle.tail_settings.specs.Policy.{PolicyData}
 use Rattle.tail_settings.specs.Section.{section_view}
 use Rattle.tail_settings.specs.declared.section.Section.{Section}
@@ -15,28 +12,27 @@ use Rattle.tenant_stores.specs.Counts.{Counts, count}
 use Rattle.tenant_stores.specs.Part.{Part}
 use Rattle.tenant_stores.specs.Shows.{AreAmong}
 use Rattle.tenant_stores.specs.Invariant.{StoreInvariant}
-use Rattle.tenant_stores.specs.Trail.{HoldsAll}
-use Rattle.tenant_stores.specs.View.{View, text_at, text_keys, view}
+use Rattle.tenant_stores.specs.View.{View, view}
 use Rattle.tenant_stores.proofs.Lists.{count-append}
-use Rattle.tenant_rules.specs.Arrivals.{Arrival, is_valid, trace_of}
+use Rattle.tenant_rules.specs.Arrivals.{is_valid}
 use Rattle.tenant_rules.specs.Fronts.{AreInOrder, AllDueBy}
 use Rattle.tenant_rules.specs.Intake.{Verdict, exhausted, accepted, verdict_of}
 use Rattle.tenant_rules.specs.Limits.{IsWithinLimits}
 use Rattle.tenant_rules.specs.Machine.{come, all_come, posted}
 use Rattle.tenant_rules.specs.State.{State}
 use Rattle.tenant_rules.specs.Sum.{IsCounted}
-use Rattle.otlp_prepare.specs.Arrivals.{arrival_with, arrivals_in, origin_view}
+use Rattle.otlp_prepare.specs.Arrivals.{arrivals_in}
 use Rattle.otlp_prepare.specs.Arrivals as prepared
 use Rattle.otlp_prepare.specs.Prepared.{IsReady, AreReady}
 use Rattle.otlp_prepare.specs.declared.noted.NotedSpan.{NotedSpan}
 use Rattle.otlp_prepare.specs.Origin.{OriginTexts}
 use Rattle.tenant_pipeline.specs.declared.journal.Journal.{Journal}
 use Rattle.tenant_pipeline.specs.declared.pipeline.Pipeline.{Pipeline}
+use Rattle.tenant_pipeline.specs.declared.post.HeldOrigins.{HeldOrigins}
 use Rattle.tenant_pipeline.specs.Acts.{IsPosted}
 use Rattle.tenant_pipeline.specs.Invariant.{IsNoted, PipelineInvariantAt}
-use Rattle.tenant_pipeline.specs.Posts.{all_keys, all_text_keys, arrival_at, IsPosting, IsWritten, IsComing, Came, IsSameTenant, keys_at, arrivals_at, IsReadyAt, AreComing, IsTaken, verdict_after}
-use Rattle.tenant_pipeline.specs.StateIn.{arrival_of, counts_in, policies_of, state_by, state_of, view_in}
-use Rattle.tenant_pipeline.proofs.Origins.{among_at, keys_index, origin_is, as_many}
+use Rattle.tenant_pipeline.specs.Posts.{held_keys, AreHeldAt, CameNext, IsNext, IsPosting, IsSameTenant, IsTaken, IsWritten, IsWrittenWith, verdict_after}
+use Rattle.tenant_pipeline.specs.StateIn.{counts_in, policies_of, state_by, state_of, view_in}
 use Rattle.tenant_pipeline.proofs.Taking.{all_take, verdict_shifts, none_taken}
 
 -- ---- what always holds, where a part shows the same
@@ -185,20 +181,20 @@ pub itself : (own : Pipeline) → IsSameTenant own own
 itself own = record { tenant = refl; section = refl; clock = refl; drained = refl }
 
 -- so many of the spans have come
-pub record Placing (moment : ℕ) (keys : List TextKeys) (spans : List NotedSpan) (index : ℕ) (journal0 journal : Journal) (own0 own : Pipeline) (p0 p : Part TraceNote) : Type 0 where
-  pub rules : all_come moment (arrivals_at p0 keys (drop index spans)) (state_of own p) ≡ all_come moment (arrivals_at p0 keys spans) (state_of own0 p0)
-  pub posting : IsPosting moment journal (all_text_keys keys) own p
-  pub texts : (ks : TextKeys) → AreAmong (text_keys ks) (all_text_keys keys) → origin_at (text_at p.texts) ks ≡ origin_at (text_at p0.texts) ks
+pub record Placing (moment : ℕ) (origins : List OriginTexts) (spans : List NotedSpan) (index : ℕ) (held0 held : HeldOrigins) (journal0 journal : Journal) (own0 own : Pipeline) (p0 p : Part TraceNote) : Type 0 where
+  pub rules : all_come moment (arrivals_in origins (drop index spans)) (state_of own p) ≡ all_come moment (arrivals_in origins spans) (state_of own0 p0)
+  pub posting : IsPosting moment journal (held_keys held) own p
+  pub held_at : AreHeldAt origins held p
   pub counted_by : counted own.ledger ≤ counted own0.ledger + index
-  pub written : (start : Pipeline) (first : Part TraceNote) → IsWritten journal0 start own0 first p0 → IsWritten journal start own first p
+  pub written : (start : Pipeline) (first : Part TraceNote) → IsWrittenWith journal0 held0 start own0 first p0 → IsWrittenWith journal held start own first p
   pub same : IsSameTenant own0 own
 
-pub none_placed : (moment : ℕ) (keys : List TextKeys) (spans : List NotedSpan) (journal : Journal) (own : Pipeline) (p : Part TraceNote) → IsPosting moment journal (all_text_keys keys) own p →
-    Placing moment keys spans 0 journal journal own own p p
-none_placed moment keys spans journal own p posting = record {
+pub none_placed : (moment : ℕ) (origins : List OriginTexts) (spans : List NotedSpan) (held : HeldOrigins) (journal : Journal) (own : Pipeline) (p : Part TraceNote) → IsPosting moment journal (held_keys held) own p →
+    AreHeldAt origins held p → Placing moment origins spans 0 held held journal journal own own p p
+none_placed moment origins spans held journal own p posting held_at = record {
   rules = refl;
   posting = posting;
-  texts = λ ks among. refl;
+  held_at = held_at;
   counted_by = omega arith;
   written = λ start first written. written;
   same = itself own;
@@ -209,62 +205,41 @@ nth_of P [] i d all within = absurd (omega arith)
 nth_of P (x ∷ xs) zero d all within = all.0
 nth_of P (x ∷ xs) (suc i) d all within = nth_of P xs i d all.1 (omega (arith, within))
 
--- where each span is ready, one of them is
-pub ready_at : (keys : List TextKeys) (own : Pipeline) (p : Part TraceNote) (spans : List NotedSpan) (index : ℕ) (d : NotedSpan) → AreComing keys spans own p → index < length spans → IsReadyAt keys own p (get_or spans index d)
-ready_at keys own p spans index d ready within = nth_of (IsReadyAt keys own p) spans index d ready within
-
--- and the keys that are read for it are those of its origin
-pub keys_read : (all : List OwnedKeys) (own : Pipeline) (p : Part TraceNote) (spans : List NotedSpan) (index : ℕ) (span : NotedSpan) (read : OwnedKeys) → AreComing (all_keys all) spans own p →
-    index < length spans → span ≡ get_or spans index span → read ≡ get_or all span.origin read → keys_at (all_keys all) span.origin ≡ read.keys
-keys_read all own p spans index span read ready within item is =
-    let here = subst (λ (x : NotedSpan). IsReadyAt (all_keys all) own p x) (sym item) (ready_at (all_keys all) own p spans index span ready within) in
-    let size = length-map all (λ (k : OwnedKeys). k.keys) in
-    keys_index all span.origin read (omega (arith, here.within, size)) ∙ ap (λ (k : OwnedKeys). k.keys) (sym is)
-
-module _ (moment : ℕ) (keys : List TextKeys) (spans : List NotedSpan) (index : ℕ) (journal0 journal : Journal) (own0 own : Pipeline) (p0 p : Part TraceNote)
-    (now : Placing moment keys spans index journal0 journal own0 own p0 p) (ready : AreComing keys spans own0 p0) (within : index < length spans) (span : NotedSpan) (item : span ≡ get_or spans index span)
+module _ (moment : ℕ) (origins : List OriginTexts) (spans : List NotedSpan) (index : ℕ) (held0 held : HeldOrigins) (journal0 journal : Journal) (own0 own : Pipeline) (p0 p : Part TraceNote)
+    (now : Placing moment origins spans index held0 held journal0 journal own0 own p0 p) (within : index < length spans) (span : NotedSpan) (item : span ≡ get_or spans index span)
   where
-    abbrev ks : TextKeys
-    ks = keys_at keys span.origin
-
-    is_ready : IsReadyAt keys own0 p0 span
-    is_ready = subst (λ (x : NotedSpan). IsReadyAt keys own0 p0 x) (sym item) (ready_at keys own0 p0 spans index span ready within)
-
-    arrival_same : arrival_at p ks span.text ≡ arrival_at p0 ks span.text
-    arrival_same = ap (λ (o : OriginData). arrival_of (record { origin = o; text = span.text })) (now.texts ks (among_at keys span.origin is_ready.within))
-
-    pub is_coming : IsComing moment journal ks span (all_text_keys keys) own p
-    is_coming =
-        let policies : policies_of own ≡ policies_of own0 = ap (λ (x : Section). (section_view x).tail_sampling.policies) now.same.section in
+    -- the next of them, where each is ready
+    pub is_next : AreReady (policies_of own0) origins spans → IsNext moment journal origins held span own p
+    is_next ready =
+        let policies : policies_of own0 ≡ policies_of own = ap (λ (x : Section). (section_view x).tail_sampling.policies) (sym now.same.section) in
+        let here : IsReady (policies_of own0) origins span = subst (λ (x : NotedSpan). IsReady (policies_of own0) origins x) (sym item) (nth_of (IsReady (policies_of own0) origins) spans index span ready within) in
         record {
           posting = now.posting;
-          among = among_at keys span.origin is_ready.within;
-          note = is_ready.note ∙ (ap (λ (ps : List PolicyData). note_of ps (arrival_at p0 ks span.text).facts) (sym policies) ∙ ap (λ (a : Arrival). note_of (policies_of own) a.facts) (sym arrival_same));
-          trace = is_ready.trace ∙ ap trace_of (sym arrival_same);
+          held_at = now.held_at;
+          ready = subst (λ (ps : List PolicyData). IsReady ps origins span) policies here;
         }
 
-    pub one_placed : (journal' : Journal) (own' : Pipeline) (p' : Part TraceNote) → Came (come moment (arrival_at p ks span.text)) moment journal journal' own own' p p' →
-        ((start : Pipeline) (first : Part TraceNote) → IsWritten journal start own first p → IsWritten journal' start own' first p') → IsSameTenant own own' →
-        Placing moment keys spans (index + 1) journal0 journal' own0 own' p0 p'
-    one_placed journal' own' p' came written same =
+    pub one_placed : (held' : HeldOrigins) (journal' : Journal) (own' : Pipeline) (p' : Part TraceNote) → CameNext (come moment (prepared.arrival_in origins span)) moment journal' origins held' own own' p p' →
+        ((start : Pipeline) (first : Part TraceNote) → IsWrittenWith journal held start own first p → IsWrittenWith journal' held' start own' first p') → IsSameTenant own own' →
+        Placing moment origins spans (index + 1) held0 held' journal0 journal' own0 own' p0 p'
+    one_placed held' journal' own' p' came written same =
         let rest = drop (index + 1) spans in
         let next : drop index spans ≡ span ∷ rest = drop_more spans index span within ∙ ap (λ (x : NotedSpan). x ∷ rest) (sym item) in
-        let made : state_of own' p' ≡ come moment (arrival_at p0 ks span.text) (state_of own p) = came.rules ∙ ap (λ (a : Arrival). come moment a (state_of own p)) arrival_same in
         record {
-          rules = ap (all_come moment (arrivals_at p0 keys rest)) made
-              ∙ (ap (λ (xs : List NotedSpan). all_come moment (arrivals_at p0 keys xs) (state_of own p)) (sym next) ∙ now.rules);
-          posting = came.posting (all_text_keys keys) now.posting;
-          texts = λ k among. came.texts (all_text_keys keys) now.posting k among ∙ now.texts k among;
+          rules = ap (all_come moment (arrivals_in origins rest)) came.rules
+              ∙ (ap (λ (xs : List NotedSpan). all_come moment (arrivals_in origins xs) (state_of own p)) (sym next) ∙ now.rules);
+          posting = came.posting;
+          held_at = came.held_at;
           counted_by = let c = came.counted_by in let n = now.counted_by in omega (arith, c, n);
           written = λ start first before. written start first (now.written start first before);
           same = same_tenant own0 own own' now.same same;
         }
 
 -- all have come
-pub all_placed : (moment : ℕ) (keys : List TextKeys) (spans : List NotedSpan) (index : ℕ) (journal0 journal : Journal) (own0 own : Pipeline) (p0 p : Part TraceNote) → Placing moment keys spans index journal0 journal own0 own p0 p →
-    length spans ≤ index → state_of own p ≡ all_come moment (arrivals_at p0 keys spans) (state_of own0 p0)
-all_placed moment keys spans index journal0 journal own0 own p0 p now done =
-    ap (λ (xs : List NotedSpan). all_come moment (arrivals_at p0 keys xs) (state_of own p)) (sym (drop_all index spans done)) ∙ now.rules
+pub all_placed : (moment : ℕ) (origins : List OriginTexts) (spans : List NotedSpan) (index : ℕ) (held0 held : HeldOrigins) (journal0 journal : Journal) (own0 own : Pipeline) (p0 p : Part TraceNote) → Placing moment origins spans index held0 held journal0 journal own0 own p0 p →
+    length spans ≤ index → state_of own p ≡ all_come moment (arrivals_in origins spans) (state_of own0 p0)
+all_placed moment origins spans index held0 held journal0 journal own0 own p0 p now done =
+    ap (λ (xs : List NotedSpan). all_come moment (arrivals_in origins xs) (state_of own p)) (sym (drop_all index spans done)) ∙ now.rules
 
 -- how many of them were taken
 pub record Count (spans : List NotedSpan) (own0 own : Pipeline) (s t : State) : Type 0 where
@@ -274,12 +249,12 @@ pub record Count (spans : List NotedSpan) (own0 own : Pipeline) (s t : State) : 
   pub counted_is : counted own.ledger ≡ counted own0.ledger + taken
   pub none : taken ≡ 0 → t ≡ s
 
-pub count_of : (moment : ℕ) (keys : List TextKeys) (spans : List NotedSpan) (own0 own : Pipeline) (p0 p : Part TraceNote) → state_of own p ≡ all_come moment (arrivals_at p0 keys spans) (state_of own0 p0) →
+pub count_of : (moment : ℕ) (origins : List OriginTexts) (spans : List NotedSpan) (own0 own : Pipeline) (p0 p : Part TraceNote) → state_of own p ≡ all_come moment (arrivals_in origins spans) (state_of own0 p0) →
     Count spans own0 own (state_of own0 p0) (state_of own p)
-count_of moment keys spans own0 own p0 p is =
-    let xs = arrivals_at p0 keys spans in
+count_of moment origins spans own0 own p0 p is =
+    let xs = arrivals_in origins spans in
     let takes = all_take moment xs (state_of own0 p0) in
-    let size : length xs ≡ length spans = length-map spans (λ span. arrival_at p0 (keys_at keys span.origin) span.text) in
+    let size : length xs ≡ length spans = length-map spans (prepared.arrival_in origins) in
     let l : own.ledger ≡ (all_come moment xs (state_of own0 p0)).ledger = ap (λ (s : State). s.ledger) is in
     let few = takes.few in
     record {
@@ -290,40 +265,11 @@ count_of moment keys spans own0 own p0 p is =
       none = λ e. is ∙ takes.none e;
     }
 
--- ---- a body's spans, with their origins held
-
-module _ (own : Pipeline) (p : Part TraceNote) (keys : List TextKeys) (origins : List OriginTexts) (texts : map (origin_at (text_at p.texts)) keys ≡ map origin_view origins)
-  where
-    arrival_is : (span : NotedSpan) → span.origin < length origins → arrival_at p (keys_at keys span.origin) span.text ≡ prepared.arrival_in origins span
-    arrival_is span within = ap (λ (o : OriginData). arrival_with o span.text) (origin_is (text_at p.texts) keys origins span.origin texts within)
-
-    one_ready : (span : NotedSpan) → IsReady (policies_of own) origins span → IsReadyAt keys own p span
-    one_ready span ready =
-        let same = arrival_is span ready.within in
-        let many = as_many (text_at p.texts) keys origins texts in
-        let within = ready.within in
-        record {
-          within = omega (arith, many, within);
-          note = ready.note ∙ ap (λ (a : Arrival). note_of (policies_of own) a.facts) (sym same);
-          trace = ready.trace ∙ ap trace_of (sym same);
-        }
-
-    pub all_ready : (spans : List NotedSpan) → AreReady (policies_of own) origins spans → AreComing keys spans own p
-    all_ready [] ready = tt
-    all_ready (span ∷ spans) ready = (one_ready span ready.0, all_ready spans ready.1)
-
-    pub arrivals_are : (spans : List NotedSpan) → AreReady (policies_of own) origins spans → arrivals_at p keys spans ≡ arrivals_in origins spans
-    arrivals_are [] ready = refl
-    arrivals_are (span ∷ spans) ready =
-        let one = arrival_is span ready.0.within in
-        let rest = arrivals_are spans ready.1 in
-        λ i. one i ∷ rest i
+-- ---- a body has come
 
 pub all_valid : (policies : List PolicyData) (origins : List OriginTexts) (spans : List NotedSpan) → AreReady policies origins spans → AllByRecursion (λ a. is_valid a ≡ true) (arrivals_in origins spans)
 all_valid policies origins [] ready = tt
 all_valid policies origins (span ∷ spans) ready = (ready.0.valid, all_valid policies origins spans ready.1)
-
--- ---- a body has come
 
 -- the spans that left in batches are no longer stored
 pub left_spans : (moment : ℕ) (journal : Journal) (gone held : List ℕ) (own : Pipeline) (p q : Part TraceNote) → gone ≡ journal.undo.gone.items → IsPosting moment journal held own p →
@@ -342,38 +288,38 @@ left_spans moment journal gone held own p q gone_is posting is_sound is_shown =
     (ap (state_by own) shows, held_over moment own.rows.swept journal.undo.gone.items [] held held own p q holds sound shows)
 
 -- the verdict of what came is that of what was counted
-pub verdict_is : (moment invalid valid taken : ℕ) (keys : List TextKeys) (spans : List NotedSpan) (own0 own : Pipeline) (p0 p : Part TraceNote) →
-    state_of own p ≡ all_come moment (arrivals_at p0 keys spans) (state_of own0 p0) → valid ≡ length spans → own.ledger.accepted ≡ own0.ledger.accepted + taken →
-    verdict_of (valid + invalid) valid own0.ledger.accepted (own0.ledger.accepted + taken) ≡ verdict_after (arrivals_at p0 keys spans) invalid moment (state_of own0 p0)
-verdict_is moment invalid valid taken keys spans own0 own p0 p is many more =
-    let xs = arrivals_at p0 keys spans in
+pub verdict_is : (moment invalid valid taken : ℕ) (origins : List OriginTexts) (spans : List NotedSpan) (own0 own : Pipeline) (p0 p : Part TraceNote) →
+    state_of own p ≡ all_come moment (arrivals_in origins spans) (state_of own0 p0) → valid ≡ length spans → own.ledger.accepted ≡ own0.ledger.accepted + taken →
+    verdict_of (valid + invalid) valid own0.ledger.accepted (own0.ledger.accepted + taken) ≡ verdict_after (arrivals_in origins spans) invalid moment (state_of own0 p0)
+verdict_is moment invalid valid taken origins spans own0 own p0 p is many more =
+    let xs = arrivals_in origins spans in
     let before = own0.ledger.accepted in
-    let size : valid ≡ length xs = many ∙ sym (length-map spans (λ span. arrival_at p0 (keys_at keys span.origin) span.text)) in
+    let size : valid ≡ length xs = many ∙ sym (length-map spans (prepared.arrival_in origins)) in
     let after : before + taken ≡ (all_come moment xs (state_of own0 p0)).ledger.accepted = sym more ∙ ap (λ (s : State). s.ledger.accepted) is in
     ap (λ (k : ℕ). verdict_of (k + invalid) k before (before + taken)) size ∙ ap (λ (k : ℕ). verdict_of (length xs + invalid) (length xs) before k) after
 
 -- the post of which all spans came
-pub record Ended (moment invalid valid taken : ℕ) (keys : List TextKeys) (spans : List NotedSpan) (journal : Journal) (own0 own own' : Pipeline) (p0 p : Part TraceNote) : Type 0 where
-  pub taken_is : IsTaken (arrivals_at p0 keys spans) invalid moment (state_of own0 p0) (state_of own' p)
-  pub posted_is : Posted moment (valid + invalid) valid taken journal (all_text_keys keys) own own' p (state_of own0 p0)
+pub record Ended (moment invalid valid taken : ℕ) (origins : List OriginTexts) (spans : List NotedSpan) (held : HeldOrigins) (journal : Journal) (own0 own own' : Pipeline) (p0 p : Part TraceNote) : Type 0 where
+  pub taken_is : IsTaken (arrivals_in origins spans) invalid moment (state_of own0 p0) (state_of own' p)
+  pub posted_is : Posted moment (valid + invalid) valid taken journal (held_keys held) own own' p (state_of own0 p0)
 
-pub ended : (moment invalid valid taken : ℕ) (keys : List TextKeys) (spans : List NotedSpan) (index : ℕ) (journal0 journal : Journal) (own0 own own' : Pipeline) (p0 p : Part TraceNote) →
-    Placing moment keys spans index journal0 journal own0 own p0 p → length spans ≤ index → valid ≡ length spans → taken ≡ own.ledger.accepted - own0.ledger.accepted →
-    counted own0.ledger + (length spans + invalid) ≤ most_counted → IsPosted (verdict_of (valid + invalid) valid 0 taken) own own' → Ended moment invalid valid taken keys spans journal own0 own own' p0 p
-ended moment invalid valid taken keys spans index journal0 journal own0 own own' p0 p now done many less fits post =
+pub ended : (moment invalid valid taken : ℕ) (origins : List OriginTexts) (spans : List NotedSpan) (index : ℕ) (held0 held : HeldOrigins) (journal0 journal : Journal) (own0 own own' : Pipeline) (p0 p : Part TraceNote) →
+    Placing moment origins spans index held0 held journal0 journal own0 own p0 p → length spans ≤ index → valid ≡ length spans → taken ≡ own.ledger.accepted - own0.ledger.accepted →
+    counted own0.ledger + (length spans + invalid) ≤ most_counted → IsPosted (verdict_of (valid + invalid) valid 0 taken) own own' → Ended moment invalid valid taken origins spans held journal own0 own own' p0 p
+ended moment invalid valid taken origins spans index held0 held journal0 journal own0 own own' p0 p now done many less fits post =
     let s = state_of own0 p0 in
-    let is = all_placed moment keys spans index journal0 journal own0 own p0 p now done in
-    let count = count_of moment keys spans own0 own p0 p is in
+    let is = all_placed moment origins spans index held0 held journal0 journal own0 own p0 p now done in
+    let count = count_of moment origins spans own0 own p0 p is in
     let more = count.accepted_is in
     let few = count.few in
     let all = count.counted_is in
     let same : taken ≡ count.taken = omega (arith, less, more) in
     let none : taken ≡ 0 → state_of own p ≡ s = λ zero'. count.none (sym same ∙ zero') in
-    let posted_ = post_is moment (valid + invalid) valid taken journal (all_text_keys keys) own own' p s now.posting none (omega arith) (omega (arith, same, few, many)) (omega (arith, same, few, many, all, fits)) post in
-    let verdict : verdict_of (valid + invalid) valid 0 taken ≡ verdict_after (arrivals_at p0 keys spans) invalid moment s =
-    sym (verdict_shifts (valid + invalid) valid own0.ledger.accepted taken) ∙ verdict_is moment invalid valid taken keys spans own0 own p0 p is many (omega (arith, more, same)) in
+    let posted_ = post_is moment (valid + invalid) valid taken journal (held_keys held) own own' p s now.posting none (omega arith) (omega (arith, same, few, many)) (omega (arith, same, few, many, all, fits)) post in
+    let verdict : verdict_of (valid + invalid) valid 0 taken ≡ verdict_after (arrivals_in origins spans) invalid moment s =
+    sym (verdict_shifts (valid + invalid) valid own0.ledger.accepted taken) ∙ verdict_is moment invalid valid taken origins spans own0 own p0 p is many (omega (arith, more, same)) in
     record {
-      taken_is = posted_.state ∙ (ap (λ (v : Verdict). posted v s (state_of own p)) verdict ∙ ap (posted (verdict_after (arrivals_at p0 keys spans) invalid moment s) s) is);
+      taken_is = posted_.state ∙ (ap (λ (v : Verdict). posted v s (state_of own p)) verdict ∙ ap (posted (verdict_after (arrivals_in origins spans) invalid moment s) s) is);
       posted_is = posted_;
     }
 
@@ -395,40 +341,7 @@ pub on_err_then : {T E : Type 0} {P Q : Type 0} (r : Result T E) → (P → Q) �
 on_err_then (Ok x) f p = tt
 on_err_then (Err e) f p = f p
 
--- ---- a body whose origins are held
-
-pub record Body (moment : ℕ) (own : Pipeline) (p q : Part TraceNote) (keys : List TextKeys) (spans : List NotedSpan) (xs : List Arrival) : Type 0 where
-  pub holds : PipelineInvariantAt moment [] (all_text_keys keys) own q
-  pub ready : AreComing keys spans own q
-  pub arrivals : arrivals_at q keys spans ≡ xs
-  pub valid : AllByRecursion (λ a. is_valid a ≡ true) xs
-  pub size : length xs ≡ length spans
-  pub back : HoldsAll (all_text_keys keys) p q
-  pub state : state_of own q ≡ state_of own p
-
-pub body_is : (moment : ℕ) (own : Pipeline) (p q : Part TraceNote) (keys all : List TextKeys) (origins : List OriginTexts) (spans : List NotedSpan) (policies : List PolicyData) (xs : List Arrival) →
-    PipelineInvariantAt moment [] [] own p → keys ≡ all → policies ≡ policies_of own → AreReady policies origins spans → arrivals_in origins spans ≡ xs →
-    ((n : Counts) (pending held : List ℕ) → StoreInvariant n pending held p → HoldsAll (all_text_keys all) p q) →
-    ((n : Counts) (pending held : List ℕ) → StoreInvariant n pending held p → StoreInvariant n pending (all_text_keys all ++ held) q) →
-    ((n : Counts) (pending held : List ℕ) → StoreInvariant n pending held p → map (origin_at (text_at q.texts)) all ≡ map origin_view origins) →
-    ((n : Counts) (pending held shown : List ℕ) → StoreInvariant n pending held p → AreAmong shown pending → view n shown q ≡ view n shown p) →
-    Body moment own p q keys spans xs
-body_is moment own p q keys all origins spans policies xs holds keys_are policies_are ready arrivals own' is_sound texts shows =
-    let n = counts_in own in
-    let pending = own.batcher.spans in
-    let mine : AreReady (policies_of own) origins spans = subst (λ (ps : List PolicyData). AreReady ps origins spans) policies_are ready in
-    let sound : StoreInvariant n pending (all_text_keys all) q = subst (λ (ks : List ℕ). StoreInvariant n pending ks q) (append-nil (all_text_keys all)) (is_sound n pending [] holds.sound) in
-    let same : view_in own q ≡ view_in own p = shows n pending [] pending holds.sound (λ key. omega arith) in
-    let text = texts n pending [] holds.sound in
-    subst (λ (ks : List TextKeys). Body moment own p q ks spans xs) (sym keys_are) (record {
-      holds = held_over moment own.rows.swept [] [] [] (all_text_keys all) own p q holds sound same;
-      ready = all_ready own q all origins text spans mine;
-      arrivals = arrivals_are own q all origins text spans mine ∙ arrivals;
-      valid = subst (λ (ys : List Arrival). AllByRecursion (λ a. is_valid a ≡ true) ys) arrivals (all_valid policies origins spans ready);
-      size = ap length (sym arrivals) ∙ length-map spans (prepared.arrival_in origins);
-      back = own' n pending [] holds.sound;
-      state = ap (state_by own) same;
-    })
+-- ---- a body of which some origins were held
 
 -- its origins were given back
 pub body_left : (moment : ℕ) (own : Pipeline) (keys : List ℕ) (p q : Part TraceNote) → PipelineInvariantAt moment [] keys own p →

@@ -4,7 +4,7 @@ use Rattle.std.specs.List.{fold, AllByRecursion}
 use Rattle.std.specs.Prelude.{nat_lt}
 use Rattle.std.proofs.lemmas.List.{map-append}
 use Rattle.std.proofs.lemmas.List.Sums.{fold-append}
-use Rattle.drop_ledger.specs.declared.places.Place.TheVariants.{Undecided}
+use Rattle.drop_ledger.specs.declared.places.Place.TheVariants.{Undecided, NotSampled}
 use Rattle.span_pool.specs.Stored.{SpanTexts}
 use Rattle.span_view.specs.Facts.{SpanFacts}
 use Rattle.tail_policy.specs.declared.note.TraceNote.{TraceNote}
@@ -21,7 +21,7 @@ use Rattle.tenant_rules.specs.Fate.{WaitingData}
 use Rattle.decision_cache.specs.Caches.{found, shown as shown_caches}
 use Rattle.tenant_rules.specs.Machine.{come, counted_in, evicted, goes, has_row, held, joined, joins, last_of, cached_or_opens, late_or_opens, opens, sampled_in}
 use Rattle.tenant_rules.specs.State.{State}
-use Rattle.tenant_rules.specs.Timers.{grouped}
+use Rattle.tenant_rules.specs.Timers.{grouped, recount}
 use Rattle.tenant_pipeline.specs.declared.pipeline.Pipeline.{Pipeline}
 use Rattle.tenant_pipeline.specs.declared.place.TraceState.TheVariants as states
 use Rattle.tenant_pipeline.specs.StateIn.{arrival_of, arrivals_of, counts_in, settled_of, state_of, waiting_of}
@@ -173,6 +173,9 @@ module _ (moment : ℕ) (x : Arrival) (s : State) (room : nat_lt (held s) s.sect
 
   pub it_comes_late : has_row (trace_of x) s.waiting ≡ false → sampled_in (trace_of x) s.settled ≡ Some true → grouped Undecided moment (x ∷ []) (counted_in s) ≡ come moment x s
   it_comes_late none is = late_in (Some true) none is
+
+  pub it_is_lost : has_row (trace_of x) s.waiting ≡ false → sampled_in (trace_of x) s.settled ≡ Some false → recount Undecided NotSampled 1 (counted_in s) ≡ come moment x s
+  it_is_lost none is = late_in (Some false) none is
 
   -- or a row: as a cache has its verdict
   cached_in : (o : Option Bool) → has_row (trace_of x) s.waiting ≡ false → sampled_in (trace_of x) s.settled ≡ None → found (trace_of x) s.caches ≡ o → cached_or_opens moment x o (counted_in s) ≡ come moment x s

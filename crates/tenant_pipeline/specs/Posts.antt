@@ -1,7 +1,6 @@
 -- How the spans of a post come, one after the other (oTLP/HTTP, "Partial Success", and the Collector's
 -- tailsamplingprocessor, as `tenant_rules` has them).
 use Rattle.std.specs.Prelude.{◌≡◌, ◌<◌, ◌≤◌, ◌+◌, ◌-◌, ◌++◌, ℕ, List, [], ◌∷◌, length, map, Bool, true, false, Option, None, Some, slice_index_or, if◌then◌else◌, nat_lt}
-use Rattle.std.specs.List.{AllByRecursion}
 use Rattle.drop_ledger.specs.Ledger.{LedgerData, counted, moved}
 use Rattle.drop_ledger.specs.declared.places.Place.TheVariants.{Undecided, TooEarly}
 use Rattle.span_batcher.specs.State.{next_due, IsAfter}
@@ -12,17 +11,22 @@ use Rattle.tail_policy.specs.Note.{note_of}
 use Rattle.trace_rows.specs.Part.{keys_of}
 use Rattle.tenant_stores.specs.declared.stores.Stores.{Stores}
 use Rattle.tenant_stores.specs.Part.{Part}
+use Rattle.tenant_stores.specs.HeldTexts.{origin_in}
 use Rattle.tenant_stores.specs.View.{text_at, text_keys}
-use Rattle.tenant_stores.specs.Trail.{Trail}
+use Rattle.tenant_stores.specs.Trail.{HoldsAll, Trail}
 use Rattle.tenant_rules.specs.Arrivals.{Arrival, trace_of}
 use Rattle.tenant_rules.specs.State.{State}
 use Rattle.decision_cache.specs.Caches.{found}
-use Rattle.tenant_rules.specs.Machine.{all_come, has_row, posted, sampled_in}
+use Rattle.tenant_rules.specs.Machine.{all_come, cached_or_opens, counted_in, has_row, held as held_spans, posted, sampled_in}
 use Rattle.tenant_rules.specs.Intake.{Verdict, verdict_of}
 use Rattle.tenant_pipeline.specs.declared.pipeline.Pipeline.{Pipeline}
 use Rattle.tenant_pipeline.specs.declared.journal.Journal.{Journal}
 use Rattle.tenant_pipeline.specs.declared.place.TraceState.{TraceState}
 use Rattle.tenant_pipeline.specs.declared.place.TraceState.TheVariants as states
+use Rattle.tenant_pipeline.specs.declared.post.HeldOrigins.{HeldOrigins}
+use Rattle.otlp_prepare.specs.Arrivals as prepared
+use Rattle.otlp_prepare.specs.Origin.{OriginTexts}
+use Rattle.otlp_prepare.specs.Prepared.{IsReady}
 use Rattle.otlp_prepare.specs.declared.noted.NotedSpan.{NotedSpan}
 use Rattle.tenant_stores.specs.Shows.{AreAmong}
 use Rattle.tenant_pipeline.specs.StateIn.{arrival_of, part_in, policies_of, state_of}
@@ -86,6 +90,16 @@ StaysWritten journal journal' own own' stores stores' = (start : Pipeline) (firs
     → IsWritten journal start own first (part_in own stores)
     → IsWritten journal' start own' first (part_in own' stores')
 
+-- a span came of this trace, which a cache knows not to be sampled, whatever the stores have of the tenant
+abbrev pub CameUnsampled : List ℕ → (own own' : Pipeline) → Type 0
+CameUnsampled trace own own' = (p : Part TraceNote) (moment : ℕ) (journal : Journal) (x : Arrival) → trace ≡ trace_of x
+    → Came (λ s. cached_or_opens moment x (Some false) (counted_in s)) moment journal journal own own' p p
+
+-- what was written down still is, whatever the stores have of the tenant
+abbrev pub StaysWrittenAnywhere : (own own' : Pipeline) → Type 0
+StaysWrittenAnywhere own own' = (p first : Part TraceNote) (journal : Journal) (start : Pipeline)
+    → IsWritten journal start own first p → IsWritten journal start own' first p
+
 -- the first row that is present once there is room for one more
 abbrev pub first_left : Pipeline → ℕ
 first_left own = own.rows.opened + 1 - own.section.tail_sampling.num_traces
@@ -132,19 +146,59 @@ abbrev pub keys_at : List TextKeys → ℕ → TextKeys
 keys_at all index = slice_index_or all index
     (record { resource = None; resource_schema_url = None; scope = None; scope_schema_url = None })
 
--- the spans as they arrived, with the texts of their origins at these keys
-abbrev pub arrivals_at : Part TraceNote → List TextKeys → List NotedSpan → List Arrival
-arrivals_at p all spans = map (λ span. arrival_at p (keys_at all span.origin) span.text) spans
+-- those of all texts that are held
+abbrev pub held_keys : HeldOrigins → List ℕ
+held_keys held = all_text_keys (all_keys held.keys.items)
 
--- a span has its origin, its note for the tenant's policies, and its trace
-pub record IsReadyAt (all : List TextKeys) (own : Pipeline) (p : Part TraceNote) (span : NotedSpan) : Type 0 where
-  pub within : span.origin < length all
-  pub note : span.note ≡ note_of (policies_of own) (arrival_at p (keys_at all span.origin) span.text).facts
-  pub trace : span.trace ≡ trace_of (arrival_at p (keys_at all span.origin) span.text)
+-- where an origin's keys stand, counted from one, or zero
+abbrev pub place_of : HeldOrigins → ℕ → ℕ
+place_of held index = slice_index_or held.places.items index 0
 
--- all of them are
-abbrev pub AreComing : List TextKeys → List NotedSpan → Pipeline → Part TraceNote → Type 0
-AreComing all spans own p = AllByRecursion (IsReadyAt all own p) spans
+-- those of these origins that have a place have their texts at the keys there
+pub record AreHeldAt (origins : List OriginTexts) (held : HeldOrigins) (p : Part TraceNote) : Type 0 where
+  pub many : length held.places.items ≡ length origins
+  pub within : (index : ℕ) → place_of held index ≤ length held.keys.items
+  pub texts : (index : ℕ) → 0 < place_of held index
+      → origin_in p (keys_at (all_keys held.keys.items) (place_of held index - 1)) ≡ prepared.origin_at origins index
+
+-- there is no room for another span
+abbrev pub IsFull : State → Type 0
+IsFull s = nat_lt (held_spans s) s.section.max_spans ≡ false
+
+-- more texts are held, or as many
+pub record HoldsMore (held held' : HeldOrigins) (old new : Part TraceNote) : Type 0 where
+  pub more : List ℕ
+  pub keys : held_keys held' ≡ more ++ held_keys held
+  pub holds : HoldsAll more old new
+
+-- a span that is ready comes next, with texts of some origins held
+pub record IsNext (moment : ℕ) (journal : Journal) (origins : List OriginTexts) (held : HeldOrigins) (span : NotedSpan)
+    (own : Pipeline) (p : Part TraceNote) : Type 0 where
+  pub posting : IsPosting moment journal (held_keys held) own p
+  pub held_at : AreHeldAt origins held p
+  pub ready : IsReady (policies_of own) origins span
+
+-- it came: the tenant is what this change makes of it, the post goes on, and no more than one span was counted
+pub record CameNext (change : State → State) (moment : ℕ) (journal : Journal) (origins : List OriginTexts)
+    (held : HeldOrigins) (own own' : Pipeline) (p p' : Part TraceNote) : Type 0 where
+  pub rules : state_of own' p' ≡ change (state_of own p)
+  pub posting : IsPosting moment journal (held_keys held) own' p'
+  pub held_at : AreHeldAt origins held p'
+  pub counted_by : counted own'.ledger ≤ counted own.ledger + 1
+
+-- what came in the post is written down: from this start, with the texts held that are now, it led here
+pub record IsWrittenWith (journal : Journal) (held : HeldOrigins) (start own : Pipeline) (start_part p : Part TraceNote)
+    : Type 0 where
+  pub first : Part TraceNote
+  pub holds : HoldsAll (held_keys held) start_part first
+  pub written : IsWritten journal start own first p
+
+-- what was written down of any start still is, with what has changed since
+abbrev pub StaysWrittenWith : (held held' : HeldOrigins) → (journal journal' : Journal) → (own own' : Pipeline)
+    → (stores stores' : Stores TraceNote) → Type 0
+StaysWrittenWith held held' journal journal' own own' stores stores' = (start : Pipeline) (first : Part TraceNote)
+    → IsWrittenWith journal held start own first (part_in own stores)
+    → IsWrittenWith journal' held' start own' first (part_in own' stores')
 
 -- what becomes of a post of these valid spans, and so many others
 abbrev pub verdict_after : List Arrival → ℕ → ℕ → State → Verdict

@@ -108,9 +108,9 @@ fn keys_of(alloc: Global, batches: &[span_batcher::Batch]) -> Result<Vec<u32>, A
 pub(crate) struct GroupPlan {
     /// The batches that it fills, by key, and what is pending afterwards.
     pub planned: Planned,
-    /// The same batches, as they are sent.
+    /// The batches that the spans fill, encoded as they are sent.
     pub sent: VecDeque<Batch>,
-    /// The keys of their spans.
+    /// The keys of all spans in the batches that are filled.
     pub gone: Vec<u32>,
 }
 

@@ -1,8 +1,8 @@
 //! A span of a post goes to its trace's row, leaves late, or opens a row.
 
-ghost use Rattle.std.specs.Prelude.{◌≡◌, ◌<◌, ◌≤◌, ◌+◌, ◌++◌, ◌∷◌, [], ◌^◌, ℕ, List, Some, IfOk, OnOk, OnErr, nat_lt, length, vec_len, vec_capacity};
-ghost use Rattle.drop_ledger.specs.Ledger.{LedgerInvariant, counted, most_counted};
-ghost use Rattle.drop_ledger.specs.declared.places.Place.TheVariants.{Undecided};
+ghost use Rattle.std.specs.Prelude.{◌≡◌, ◌<◌, ◌≤◌, ◌+◌, ◌++◌, ◌∷◌, [], ◌^◌, ℕ, List, Some, IfOk, OnOk, OnErr, nat_lt, false, length, vec_len, vec_capacity};
+ghost use Rattle.drop_ledger.specs.Ledger.{LedgerInvariant, counted, most_counted, moved, taken};
+ghost use Rattle.drop_ledger.specs.declared.places.Place.TheVariants.{NotSampled, Undecided};
 ghost use Rattle.trace_rows.specs.Part.{keys_of};
 ghost use Rattle.tenant_stores.specs.Counts.{room_made};
 ghost use Rattle.tenant_stores.specs.Invariant.{StoreInvariant};
@@ -13,7 +13,7 @@ ghost use Rattle.tenant_rules.specs.Timers.{grouped};
 ghost use Rattle.decision_cache.specs.Caches.{found, shown};
 ghost use Rattle.tenant_pipeline.specs.StateIn.{counts_in, part_in, state_in};
 ghost use Rattle.tenant_pipeline.specs.Invariant.{PipelineInvariantAt};
-ghost use Rattle.tenant_pipeline.specs.Posts.{arrival_at, CameIn, IsComing, IsSameTenant, IsTraceState, IsTraceStateAt, StaysWritten};
+ghost use Rattle.tenant_pipeline.specs.Posts.{arrival_at, CameIn, CameUnsampled, IsComing, IsSameTenant, IsTraceState, IsTraceStateAt, StaysWritten, StaysWrittenAnywhere};
 ghost use Rattle.tenant_pipeline.specs.Posts.{first_left, ledger_left, state_by_cache};
 ghost use Rattle.tenant_stores.specs.Promises.{OthersUnchanged, TextsStay, WhereInHand, ShowsSameInHand};
 ghost use Rattle.tenant_stores.specs.HeldTexts.{origin_in};
@@ -42,7 +42,7 @@ pub enum TraceState {
 
 impl Pipeline {
     /// Where a trace has its latest row.
-    fn trace_state(&self, stores: &Stores<TraceNote>, trace: [u8; 16]) -> TraceState
+    pub(crate) fn trace_state(&self, stores: &Stores<TraceNote>, trace: [u8; 16]) -> TraceState
         requires invariant { (reached : ℕ) × (gone held : List ℕ)
             × PipelineInvariantAt reached gone held self.now (part_in self.now stores.now) }
         ensures state { IsTraceState trace result (state_in self.now stores.now) }
@@ -115,9 +115,7 @@ impl Pipeline {
             TraceState::Waits(number) => self.join(stores, journal, number, moment, keys, span),
             TraceState::Decided(true) => self.admit_late(stores, journal, moment, keys, span),
             TraceState::Decided(false) => {
-                self.ledger.take(1);
-                self.ledger
-                    .move_spans(Place::Undecided, Place::NotSampled, 1);
+                self.count_unsampled();
                 Ok(())
             }
             TraceState::Cached(sampled) => self.hit(stores, journal, moment, keys, span, sampled),
@@ -157,11 +155,35 @@ impl Pipeline {
             self.admit_late(stores, journal, moment, keys, span)?;
             return self.caches.push_hit(span.trace, true);
         }
-        self.caches.push_hit(span.trace, false)?;
+        self.hit_unsampled(span.trace)
+    }
+
+    /// A span comes whose trace has no row that is present, while a cache knows that it wasn't sampled. Nothing of it
+    /// is kept. Where memory is refused, nothing has changed.
+    pub(crate) fn hit_unsampled(&mut self, trace: [u8; 16]) -> Result<(), AllocError>
+        requires known { found trace (shown self.old.caches) ≡ Some false }
+        requires fits { counted self.old.ledger + 1 ≤ most_counted }
+        requires budget { self.old.ledger.places.undecided + self.old.ledger.places.pending
+            < self.old.section.max_spans }
+        ensures came { OnOk result (CameUnsampled trace self.old self.new) }
+        ensures written { StaysWrittenAnywhere self.old self.new }
+        ensures same { IsSameTenant self.old self.new }
+        ensures on_refusal { OnErr result (self.new ≡ self.old) }
+    {
+        self.caches.push_hit(trace, false)?;
+        self.count_unsampled();
+        Ok(())
+    }
+
+    /// A span is counted whose trace isn't sampled. Nothing of it is kept.
+    pub(crate) fn count_unsampled(&mut self)
+        requires fits { counted self.old.ledger + 1 ≤ most_counted }
+        ensures { self.new ≡ record self.old
+            { ledger = moved Undecided NotSampled 1 (taken 1 self.old.ledger) } }
+    {
         self.ledger.take(1);
         self.ledger
             .move_spans(Place::Undecided, Place::NotSampled, 1);
-        Ok(())
     }
 
     /// A span joins the row of this number, which waits.

@@ -1,6 +1,6 @@
 //! The spans of a body come, all of them or none.
 
-ghost use Rattle.std.specs.Prelude.{◌≡◌, ◌≤◌, ◌+◌, ◌-◌, ◌++◌, [], ℕ, List, IfOk, OnOk, OnErr, length, map};
+ghost use Rattle.std.specs.Prelude.{◌≡◌, ◌<◌, ◌≤◌, ◌+◌, ◌-◌, ◌++◌, [], ℕ, List, IfOk, OnOk, OnErr, length, nat_lt, replicate};
 ghost use Rattle.drop_ledger.specs.Ledger.{counted, most_counted};
 ghost use Rattle.span_batcher.specs.State.{next_due, IsAfter};
 ghost use Rattle.tail_policy.specs.declared.note.TraceNote.{TraceNote as Note};
@@ -10,18 +10,20 @@ ghost use Rattle.tenant_stores.specs.Trail.{HoldsAll};
 ghost use Rattle.tenant_stores.specs.View.{text_keys};
 ghost use Rattle.tenant_rules.specs.Answers.{reply_of};
 ghost use Rattle.tenant_rules.specs.Intake.{verdict_of};
-ghost use Rattle.tenant_rules.specs.Machine.{post, post_verdict};
-ghost use Rattle.otlp_prepare.specs.Arrivals.{origin_view};
+ghost use Rattle.tenant_rules.specs.Machine.{come, post, post_verdict};
+ghost use Rattle.otlp_prepare.specs.Arrivals.{arrival_in, arrivals_in, origin_at, origin_view};
+ghost use Rattle.otlp_prepare.specs.Prepared.{AreReady};
 ghost use Rattle.tenant_pipeline.specs.Prepared.{arrivals_of};
 ghost use Rattle.tenant_pipeline.specs.StateIn.{part_in, policies_of, state_in};
 ghost use Rattle.tenant_pipeline.specs.Invariant.{PipelineInvariantAt, IsSwept};
-ghost use Rattle.tenant_pipeline.specs.Posts.{all_keys, all_text_keys, arrivals_at, AreComing, IsPosting, IsTaken, IsSameTenant, StaysWritten, verdict_after};
+ghost use Rattle.tenant_pipeline.specs.Posts.{all_keys, all_text_keys, held_keys, keys_at, place_of, AreHeldAt, CameNext, HoldsMore, IsFull, IsNext, IsPosting, IsTaken, IsSameTenant, StaysWrittenWith, verdict_after};
 ghost use Rattle.tenant_pipeline.specs.Acts.{ActsAt, IsPosted, at};
 ghost use Rattle.tenant_stores.specs.Promises.{OthersUnchanged, TextsStay, WhereSound, WhereHeld, ShowsSame, ShowsSameHeld};
 ghost use Rattle.tenant_stores.specs.HeldTexts.{origin_in};
 
 use crate::journal::Journal;
 use crate::pipeline::Pipeline;
+use crate::place::TraceState;
 use crate::reply::{refusal, success};
 use otlp_prepare::{NotedSpan, Prepared, SpanOrigin};
 use span_pool::SharedKeys;
@@ -69,39 +71,82 @@ fn hold_origin(
     }
 }
 
-/// One use of the texts of each origin. The answer is their keys, an origin's at its index. All or none.
-fn hold_origins(
-    alloc: Global,
-    stores: &mut Stores<TraceNote>,
-    tenant: u32,
-    origins: &[SpanOrigin],
-) -> Result<Vec<SharedKeys>, AllocError>
-    ensures uses_added { IfOk result (λ all. WhereSound (part tenant stores.old)
-        (λ n pending held. HoldsAll (all_text_keys (all_keys all.items)) (part tenant stores.old)
-        (part tenant stores.new))) }
-    ensures store_invariant { IfOk result
-        (λ all. WhereSound (part tenant stores.old)
-        (λ n pending held. StoreInvariant n pending (all_text_keys (all_keys all.items) ++ held)
-        (part tenant stores.new))) }
-    ensures origins { IfOk result (λ all. WhereSound (part tenant stores.old)
-        (λ n pending held. map (origin_in (part tenant stores.new)) (all_keys all.items)
-        ≡ map origin_view origins.now)) }
-    ensures shows { OnOk result (ShowsSame (part tenant stores.old) (part tenant stores.new)) }
-    ensures others_unchanged { OthersUnchanged tenant stores.old stores.new }
-    ensures on_refusal { OnErr result (WhereSound (part tenant stores.old)
-        (λ n pending held. part tenant stores.new ≡ part tenant stores.old)) }
-{
-    let mut all = Vec::with_capacity(alloc, origins.len())?;
-    for origin in origins {
-        match hold_origin(alloc, stores, tenant, origin) {
-            Ok(keys) => all.push_reserved(keys),
-            Err(refused) => {
-                release_origins(stores, tenant, all);
-                return Err(refused);
-            }
-        }
+/// The texts of a body's origins that are held: of each from its first span on of which anything is kept.
+#[derive(Drop)]
+pub struct HeldOrigins {
+    /// Of each origin where its keys stand below, counted from one, or zero while its texts aren't held.
+    places: Vec<usize>,
+    /// The keys of those whose texts are, in the order in which they were held.
+    keys: Vec<SharedKeys>,
+}
+
+impl HeldOrigins {
+    /// None of so many origins is held so far.
+    fn none(alloc: Global, origins: usize) -> Result<HeldOrigins, AllocError>
+        ensures keys { IfOk result (λ held. held.keys.items ≡ []) }
+        ensures places { IfOk result (λ held. held.places.items ≡ replicate origins 0) }
+    {
+        let mut places = Vec::new(alloc);
+        places.resize(origins, 0)?;
+        Ok(HeldOrigins {
+            places,
+            keys: Vec::new(alloc),
+        })
     }
-    Ok(all)
+
+    /// Whether the texts of an origin are.
+    fn has(&self, index: usize) -> bool
+        requires within { index < length self.now.places.items }
+        ensures { result ≡ nat_lt 0 (place_of self.now index) }
+    {
+        self.places[index] > 0
+    }
+
+    /// Where an origin's keys stand, whose texts are held from the first time on.
+    fn hold(
+        &mut self,
+        alloc: Global,
+        stores: &mut Stores<TraceNote>,
+        tenant: u32,
+        origins: &[SpanOrigin],
+        index: usize,
+    ) -> Result<usize, AllocError>
+        requires origins { AreHeldAt origins.now self.old (part tenant stores.old) }
+        requires within { index < length origins.now }
+        ensures place { IfOk result (λ place. place < length self.new.keys.items) }
+        ensures origin { IfOk result (λ place.
+            WhereHeld (held_keys self.old) (part tenant stores.old) (λ n pending held.
+            origin_in (part tenant stores.new) (keys_at (all_keys self.new.keys.items) place)
+            ≡ origin_at origins.now index)) }
+        ensures origins { OnOk result (WhereHeld (held_keys self.old) (part tenant stores.old)
+            (λ n pending held. AreHeldAt origins.now self.new (part tenant stores.new))) }
+        ensures uses_added { OnOk result (WhereHeld (held_keys self.old) (part tenant stores.old)
+            (λ n pending held. HoldsMore self.old self.new (part tenant stores.old)
+            (part tenant stores.new))) }
+        ensures store_invariant { OnOk result
+            (WhereHeld (held_keys self.old) (part tenant stores.old)
+            (λ n pending held. StoreInvariant n pending (held_keys self.new ++ held)
+            (part tenant stores.new))) }
+        ensures shows { OnOk result (ShowsSame (part tenant stores.old) (part tenant stores.new)) }
+        ensures others_unchanged { OthersUnchanged tenant stores.old stores.new }
+        ensures noted { IfOk result (λ place. place_of self.new index ≡ place + 1) }
+        ensures again { 0 < place_of self.old index → (self.new ≡ self.old)
+            × (part tenant stores.new ≡ part tenant stores.old) }
+        ensures on_refusal { OnErr result (self.new.keys.items ≡ self.old.keys.items) }
+        ensures part_on_refusal { OnErr result (WhereSound (part tenant stores.old)
+            (λ n pending held. part tenant stores.new ≡ part tenant stores.old)) }
+    {
+        let place = self.places[index];
+        if place > 0 {
+            return Ok(place - 1);
+        }
+        self.keys.reserve(1)?;
+        let keys = hold_origin(alloc, stores, tenant, &origins[index])?;
+        let count = self.keys.len();
+        self.keys.push_reserved(keys);
+        self.places[index] = count + 1;
+        Ok(count)
+    }
 }
 
 /// One use less of the texts of each origin. It takes no memory.
@@ -159,49 +204,44 @@ impl Pipeline {
         {
             return refusal(self.alloc, 503, "counter limit");
         }
-        // No span comes then, so that no text is held for any.
-        if !self.has_room() {
-            return self.reply(spans.len() as u64, 0, invalid);
-        }
-        let keys = hold_origins(self.alloc, stores, self.tenant, origins)?;
-        let reply = self.take_spans(stores, moment, keys.as_slice(), spans, invalid);
-        release_origins(stores, self.tenant, keys);
+        let mut held = HeldOrigins::none(self.alloc, origins.len())?;
+        let reply = self.take_spans(stores, moment, origins, &mut held, spans, invalid);
+        release_origins(stores, self.tenant, held.keys);
         reply
     }
 
-    /// The spans of a body come, with the texts of their origins held at these keys. Where memory is refused, nothing
-    /// has changed.
+    /// The spans of a body come. Where memory is refused, nothing has changed but that texts of their origins may be
+    /// held.
     fn take_spans(
         &mut self,
         stores: &mut Stores<TraceNote>,
         moment: u64,
-        keys: &[SharedKeys],
+        origins: &[SpanOrigin],
+        held: &mut HeldOrigins,
         spans: &[NotedSpan],
         invalid: u64,
     ) -> Result<Reply, AllocError>
-        requires holds { PipelineInvariantAt moment [] (all_text_keys (all_keys keys.now)) self.old
-            (part_in self.old stores.old) }
+        requires holds { PipelineInvariantAt moment [] [] self.old (part_in self.old stores.old) }
         requires quiet { IsAfter (next_due self.old.batcher) moment }
-        requires ready { AreComing (all_keys keys.now) spans.now self.old
-            (part_in self.old stores.old) }
+        requires none { held.old.keys.items ≡ [] }
+        requires origins { AreHeldAt origins.now held.old (part_in self.old stores.old) }
+        requires ready { AreReady (policies_of self.old) origins.now spans.now }
         requires fits { counted self.old.ledger + (length spans.now + invalid) ≤ most_counted }
-        ensures on_success { OnOk result
-            (IsTaken (arrivals_at (part_in self.old stores.old) (all_keys keys.now) spans.now)
-            invalid moment (state_in self.old stores.old) (state_in self.new stores.new)) }
+        ensures on_success { OnOk result (IsTaken (arrivals_in origins.now spans.now) invalid moment
+            (state_in self.old stores.old) (state_in self.new stores.new)) }
         ensures reply { IfOk result (λ reply. reply ≡ reply_of (verdict_after
-            (arrivals_at (part_in self.old stores.old) (all_keys keys.now) spans.now) invalid moment
-            (state_in self.old stores.old))) }
-        ensures holds { OnOk result (PipelineInvariantAt moment []
-            (all_text_keys (all_keys keys.now)) self.new (part_in self.new stores.new)) }
+            (arrivals_in origins.now spans.now) invalid moment (state_in self.old stores.old))) }
+        ensures holds { OnOk result (PipelineInvariantAt moment [] (held_keys held.new) self.new
+            (part_in self.new stores.new)) }
         ensures others_unchanged { OthersUnchanged self.old.tenant stores.old stores.new }
         ensures on_refusal { OnErr result (self.new ≡ self.old) }
-        ensures part_on_refusal { OnErr result
-            (part self.old.tenant stores.new ≡ part self.old.tenant stores.old) }
+        ensures part_on_refusal { OnErr result (HoldsAll (held_keys held.new)
+            (part self.old.tenant stores.old) (part self.old.tenant stores.new)) }
         ensures swept { OnOk result (IsSwept self.new) }
         ensures same { IsSameTenant self.old self.new }
     {
         let mut journal = Journal::of(self, spans.len())?;
-        match self.admit_all(stores, &mut journal, moment, keys, spans, invalid) {
+        match self.admit_all(stores, &mut journal, moment, origins, held, spans, invalid) {
             Ok(reply) => {
                 stores.flush(self.tenant, journal.undo.gone.as_slice());
                 self.caches.commit();
@@ -223,35 +263,100 @@ impl Pipeline {
         stores: &mut Stores<TraceNote>,
         journal: &mut Journal,
         moment: u64,
-        keys: &[SharedKeys],
+        origins: &[SpanOrigin],
+        held: &mut HeldOrigins,
         spans: &[NotedSpan],
         invalid: u64,
     ) -> Result<Reply, AllocError>
-        requires posting { IsPosting moment journal.old (all_text_keys (all_keys keys.now)) self.old
+        requires posting { IsPosting moment journal.old (held_keys held.old) self.old
             (part_in self.old stores.old) }
-        requires ready { AreComing (all_keys keys.now) spans.now self.old
-            (part_in self.old stores.old) }
+        requires origins { AreHeldAt origins.now held.old (part_in self.old stores.old) }
+        requires ready { AreReady (policies_of self.old) origins.now spans.now }
         requires fits { counted self.old.ledger + (length spans.now + invalid) ≤ most_counted }
-        ensures on_success { OnOk result
-            (IsTaken (arrivals_at (part_in self.old stores.old) (all_keys keys.now) spans.now)
-            invalid moment (state_in self.old stores.old) (state_in self.new stores.new)) }
+        ensures on_success { OnOk result (IsTaken (arrivals_in origins.now spans.now) invalid moment
+            (state_in self.old stores.old) (state_in self.new stores.new)) }
         ensures reply { IfOk result (λ reply. reply ≡ reply_of (verdict_after
-            (arrivals_at (part_in self.old stores.old) (all_keys keys.now) spans.now) invalid moment
-            (state_in self.old stores.old))) }
-        ensures posting { OnOk result (IsPosting moment journal.new
-            (all_text_keys (all_keys keys.now)) self.new (part_in self.new stores.new)) }
-        ensures written { StaysWritten journal.old journal.new self.old self.new stores.old
-            stores.new }
+            (arrivals_in origins.now spans.now) invalid moment (state_in self.old stores.old))) }
+        ensures posting { OnOk result (IsPosting moment journal.new (held_keys held.new) self.new
+            (part_in self.new stores.new)) }
+        ensures written { StaysWrittenWith held.old held.new journal.old journal.new self.old
+            self.new stores.old stores.new }
         ensures others_unchanged { OthersUnchanged self.old.tenant stores.old stores.new }
         ensures same { IsSameTenant self.old self.new }
     {
         let before = self.ledger.accepted();
         for span in spans {
-            self.admit(stores, journal, moment, &keys[span.origin], span)?;
+            self.admit_held(stores, journal, moment, origins, held, span)?;
         }
         let taken = self.ledger.accepted() - before;
         let reply = self.reply(spans.len() as u64, taken, invalid)?;
         Ok(reply)
+    }
+
+    /// A span of a body comes at a moment, in milliseconds, and is taken where there is room. The texts of its origin
+    /// are held from the first span on of which anything is kept.
+    fn admit_held(
+        &mut self,
+        stores: &mut Stores<TraceNote>,
+        journal: &mut Journal,
+        moment: u64,
+        origins: &[SpanOrigin],
+        held: &mut HeldOrigins,
+        span: &NotedSpan,
+    ) -> Result<(), AllocError>
+        requires next { IsNext moment journal.old origins.now held.old span.now self.old
+            (part_in self.old stores.old) }
+        requires fits { counted self.old.ledger + 1 ≤ most_counted }
+        ensures came { OnOk result (CameNext (come moment (arrival_in origins.now span.now)) moment
+            journal.new origins.now held.new self.old self.new (part_in self.old stores.old)
+            (part_in self.new stores.new)) }
+        ensures full { IsFull (state_in self.old stores.old) → (held.new ≡ held.old)
+            × (part self.old.tenant stores.new ≡ part self.old.tenant stores.old) }
+        ensures written { StaysWrittenWith held.old held.new journal.old journal.new self.old
+            self.new stores.old stores.new }
+        ensures others_unchanged { OthersUnchanged self.old.tenant stores.old stores.new }
+        ensures same { IsSameTenant self.old self.new }
+    {
+        if !self.has_room() {
+            return Ok(());
+        }
+        if held.has(span.origin) {
+            return self.admit_with_texts(stores, journal, moment, origins, held, span);
+        }
+        match self.trace_state(stores, span.trace) {
+            TraceState::Decided(false) => {
+                self.count_unsampled();
+                Ok(())
+            }
+            TraceState::Cached(false) => self.hit_unsampled(span.trace),
+            _ => self.admit_with_texts(stores, journal, moment, origins, held, span),
+        }
+    }
+
+    /// A span of a body comes at a moment, in milliseconds, and is taken where there is room. The texts of its origin
+    /// are held from now on.
+    fn admit_with_texts(
+        &mut self,
+        stores: &mut Stores<TraceNote>,
+        journal: &mut Journal,
+        moment: u64,
+        origins: &[SpanOrigin],
+        held: &mut HeldOrigins,
+        span: &NotedSpan,
+    ) -> Result<(), AllocError>
+        requires next { IsNext moment journal.old origins.now held.old span.now self.old
+            (part_in self.old stores.old) }
+        requires fits { counted self.old.ledger + 1 ≤ most_counted }
+        ensures came { OnOk result (CameNext (come moment (arrival_in origins.now span.now)) moment
+            journal.new origins.now held.new self.old self.new (part_in self.old stores.old)
+            (part_in self.new stores.new)) }
+        ensures written { StaysWrittenWith held.old held.new journal.old journal.new self.old
+            self.new stores.old stores.new }
+        ensures others_unchanged { OthersUnchanged self.old.tenant stores.old stores.new }
+        ensures same { IsSameTenant self.old self.new }
+    {
+        let place = held.hold(self.alloc, stores, self.tenant, origins, span.origin)?;
+        self.admit(stores, journal, moment, &held.keys[place], span)
     }
 
     /// The reply to a body with so many valid spans, of which so many were taken, and so many others. What was left out

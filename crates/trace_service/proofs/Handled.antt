@@ -1,7 +1,7 @@
 -- From where a message goes to what becomes of it.
-use Rattle.std.proofs.Common.{◌≡◌, ℕ, List, Option, Some, None, subst}
-use Rattle.http_edge.specs.Message.{Response}
-use Rattle.otlp_front.specs.Route.{Route, post, refuse}
+use Rattle.std.proofs.Common.{◌≡◌, ℕ, List, Option, Some, None, refl, subst}
+use Rattle.http_edge.specs.Message.{Request, Response, with_body}
+use Rattle.otlp_front.specs.Route.{Names, Route, post, refuse, route_of}
 use Rattle.otlp_front.specs.Seen.{response_for}
 use Rattle.otlp_front.specs.declared.refusal.RouteRefusal.{RouteRefusal}
 use Rattle.shared_hub.specs.Logs.{CallerState}
@@ -11,6 +11,12 @@ use Rattle.tail_settings.specs.Settings.{SettingsData, section_at}
 use Rattle.trace_service.specs.declared.in_force.Destination.TheVariants.{To, Nowhere}
 use Rattle.trace_service.specs.InForce.{IsTenant, IsWhere}
 use Rattle.trace_service.specs.Post.{MayTell, IsSent, IsSentBy}
+
+-- where a request goes its body has no say in
+pub route_with_body : (names : Names) (request : Request) (body : List ℕ)
+    → route_of names (with_body request body) ≡ route_of names request
+unfolding route_of
+route_with_body names request body = refl
 
 module _ (before last : ℕ) (old new : CallerState) (shards : ℕ) (body : List ℕ) (told : Response) where
   to_tenant : (found : Option SectionData) (number tenant : ℕ) (own : Section) → IsTenant found number (To tenant own)

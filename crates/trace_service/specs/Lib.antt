@@ -20,3 +20,4 @@ pub mod Shown
 pub mod Whole
 pub mod Control
 pub mod Visit
+pub mod Retried

@@ -71,6 +71,18 @@ impl<'c, 'h, J: Naming, R: Wait + Clock> Handler for AdminHandler<'c, 'h, J, R> 
         ≡ admin_of old.port old.limits old.lane_capacity)
         × (new.context.ghost_name ≡ old.context.ghost_name) };
 
+    /// Who isn't let in is refused before the body comes.
+    fn reply_to_head(&self, head: &HttpMessage) -> Option<Reply> {
+        let asked = admin_route(head.method.as_str(), path(head.target.as_slice()));
+        if self.is_let_in(head.headers.as_slice(), &asked) {
+            return None;
+        }
+        match not_let_in(self.context.alloc(), self.port.token) {
+            Ok(reply) => Some(reply),
+            Err(AllocError) => Some(without_memory(self.context.alloc())),
+        }
+    }
+
     fn handle<T: Threads + Sync>(&mut self, _rt: &T, message: HttpMessage) -> Reply {
         match self.answer(message) {
             Ok(reply) => reply,

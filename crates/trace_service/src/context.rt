@@ -14,6 +14,7 @@ use bytes::Bytes;
 use export_edge::{AnswerRefused, AnswerSink, Beat, JobSource, TurnResult};
 use http_edge::{Handler, HttpMessage, Reply};
 use job_lane::Job;
+use otlp_front::RouteRefusal;
 use send_retry::Answer;
 use shared_hub::{Caller, HubFault, SharedHub};
 use std::alloc::{AllocError, Global};
@@ -266,7 +267,7 @@ impl<'h, J: Naming, R: Wait + Clock> JobSource for WorkerContext<'h, J, R> {
 
     /// The job of the turn before is in the lane by now.
     fn turn(&mut self, now: u64) -> TurnResult {
-        self.teller.begin_turn();
+        self.teller.begin_turn(self.shard, now);
         let step = Step::Turn { now };
         match self
             .hub
@@ -308,6 +309,24 @@ impl<'h, J: Naming, R: Wait + Clock> WorkerContext<'h, J, R> {
             Err(_) => Some(0),
         };
         self.teller.note_due(self.shard, due);
+    }
+
+    /// Tells the turner of this tenant's shard, behind a call by which something may be due there sooner. It isn't
+    /// woken where it looks by then anyway: most spans wait for longer than what was there before them.
+    fn tell_turner(&mut self, tenant: u32)
+        ensures shard { self.new.shard ≡ self.old.shard }
+        ensures caller { self.new.caller ≡ self.old.caller }
+        ensures hub { self.new.hub ≡ self.old.hub }
+        ensures moment { self.new.beat.last ≡ self.old.beat.last }
+    {
+        let shard = self.shard_of(tenant);
+        let due = if self.teller.called(shard) {
+            let told = self.hub.look(self.rt, &mut self.caller, tenant);
+            told.answer.shard_ready
+        } else {
+            Some(0)
+        };
+        self.teller.tell_due(shard, due);
     }
 }
 
@@ -353,6 +372,7 @@ impl<'h, J: Naming, R: Wait + Clock> AnswerSink for WorkerContext<'h, J, R> {
             Ok(_) => {
                 let shard = self.shard_of(tenant);
                 self.teller.answered(shard);
+                self.tell_turner(tenant);
                 self.signals().tally().end_job(answer);
                 Ok(())
             }
@@ -371,6 +391,14 @@ impl<'h, J: Naming, R: Wait + Clock> Handler for WorkerContext<'h, J, R> {
     ghost answers = { λ old request told new. IsHandled J.first old.beat.last new.beat.last old.caller new.caller
         (length old.hub.now) request told };
 
+    /// Who goes to no tenant is refused before the body comes, by the settings that are in force then.
+    fn reply_to_head(&self, head: &HttpMessage) -> Option<Reply> {
+        match self.refusal(head) {
+            Some(refusal) => Some(refused(self.alloc, refusal)),
+            None => None,
+        }
+    }
+
     fn handle<T: Threads + Sync>(&mut self, rt: &T, message: HttpMessage) -> Reply {
         match self.destination(&message) {
             Ok(Destination::To { tenant, section }) => {
@@ -384,13 +412,23 @@ impl<'h, J: Naming, R: Wait + Clock> Handler for WorkerContext<'h, J, R> {
 }
 
 impl<'h, J: Naming, R: Wait + Clock> WorkerContext<'h, J, R> {
-    ghost use Rattle.std.specs.Prelude.{◌≡◌, length, Some, IfOk};
+    ghost use Rattle.std.specs.Prelude.{◌≡◌, length, Some, IfOk, IfSome};
     ghost use Rattle.http_edge.specs.Seen.{response_of, seen};
     ghost use Rattle.otlp_front.specs.Route.{names_in, route_of};
     ghost use Rattle.tail_settings.specs.Section.{section_view};
     ghost use Rattle.tail_settings.specs.Settings.{SettingsData};
     ghost use Rattle.trace_service.specs.InForce.{CameOf, IsWhere};
     ghost use Rattle.trace_service.specs.Post.{IsSent};
+
+    /// Why the message with this head goes to no tenant, by the settings in force. None where it goes to one. Meanwhile
+    /// they are locked.
+    fn refusal(&self, head: &HttpMessage) -> Option<RouteRefusal>
+        ensures { IfSome result (λ refusal. (now : SettingsData) × CameOf J.first now
+            × IsWhere (route_of (names_in now) (seen head.now)) now
+            (Destination.Nowhere refusal)) }
+    {
+        self.settings.lock(self.rt).refusal(head)
+    }
 
     /// Where a message goes, by the settings in force. Meanwhile they are locked.
     fn destination(&self, message: &HttpMessage) -> Result<Destination, AllocError>
@@ -454,10 +492,15 @@ impl<'h, J: Naming, R: Wait + Clock> WorkerContext<'h, J, R> {
         bytes_of(body)
     }
 
-    /// A post of a body of so many bytes is done: there is room for others, and a turn of its shard may be worth while.
-    fn end_post(&self, tenant: u32, bytes: usize) {
+    /// A post of a body of so many bytes is done: there is room for others, and its shard's turner is told.
+    fn end_post(&mut self, tenant: u32, bytes: usize)
+        ensures shard { self.new.shard ≡ self.old.shard }
+        ensures caller { self.new.caller ≡ self.old.caller }
+        ensures hub { self.new.hub ≡ self.old.hub }
+        ensures moment { self.new.beat.last ≡ self.old.beat.last }
+    {
         self.signals().large_bodies().leave(self.rt, bytes);
-        self.signals().bells().ring_shard(self.shard_of(tenant));
+        self.tell_turner(tenant);
     }
 }
 

@@ -105,6 +105,18 @@ impl<J: Naming> InForce<J> {
         }
     }
 
+    /// Why the message with this head goes to no tenant, whatever its body is. None where it goes to one.
+    pub fn refusal(&self, head: &HttpMessage) -> Option<RouteRefusal>
+        ensures { IfSome result (λ refusal. IsWhere
+            (route_of (names_in (settings_view self.now.settings)) (seen head.now))
+            (settings_view self.now.settings) (Destination.Nowhere refusal)) }
+    {
+        match route(&self.settings, head) {
+            Route::Post { .. } => None,
+            Route::Refuse(refusal) => Some(refusal),
+        }
+    }
+
     /// Where a message goes, with a copy of its tenant's section, which shares the policies.
     pub fn destination(&self, message: &HttpMessage) -> Result<Destination, AllocError>
         ensures { IfOk result (λ d. IsWhere

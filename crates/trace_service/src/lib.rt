@@ -14,6 +14,7 @@
 
 ghost use Rattle.trace_service.specs.Jobs.{PoppedWereGiven};
 ghost use Rattle.trace_service.specs.Post.{StatusesAgree};
+ghost use Rattle.trace_service.specs.Retried.{RetryDoubtsHold, RetriesAreMade};
 ghost use Rattle.std.specs.Prelude.{◌≡◌, ℕ, List, Some, true};
 ghost use Rattle.export_edge.specs.Dialing.{as_address};
 ghost use Rattle.http_edge.specs.Limits.{max_body};
@@ -83,6 +84,13 @@ pub fn popped_jobs_were_given()
 /// law over two definitions.
 pub fn statuses_agree()
     ensures { StatusesAgree }
+{}
+
+/// Where `check` tells that no batch of a tenant is sent again, none is, by what `send_retry` makes of any answer.
+/// Where it tells nothing and retries aren't turned off, one can be. A law over the definitions of two crates.
+pub fn retry_doubts_hold()
+    ensures told { RetryDoubtsHold }
+    ensures untold { RetriesAreMade }
 {}
 
 /// Limits that stand in two crates are the same: a body that a script posts may be as long as one over HTTP, the

@@ -12,6 +12,12 @@ const PATIENCE: u32 = 100;
 /// does in one step.
 const MOST_BEHIND: u64 = 50;
 
+/// Posts and answers come often to a shard where more of them come than one in so many milliseconds.
+const APART: u64 = 2;
+
+/// They are counted for so many milliseconds at least.
+const COUNTED: u64 = 16;
+
 /// What threads know of how one shard's moments go on.
 #[derive(Drop)]
 pub(crate) struct ShardPace {
@@ -25,6 +31,12 @@ pub(crate) struct ShardPace {
     reached: AtomicU64,
     // When something is due next by the time alone, as it was behind the last turn; 0 where that found something.
     due: AtomicU64,
+    // Whether its turner rests by that, and wasn't rung since.
+    is_at_rest: AtomicBool,
+    // How many posts and answers came to it since that moment, and whether they came often before.
+    calls: AtomicU64,
+    counted_from: AtomicU64,
+    are_frequent: AtomicBool,
     // By how many milliseconds they are ahead of the clock's.
     ahead: AtomicU64,
     // Up to which moment they don't wait for the clock's while somebody is in a hurry, else 0.
@@ -39,6 +51,10 @@ impl ShardPace {
             jobs: AtomicUsize::new(0),
             reached: AtomicU64::new(0),
             due: AtomicU64::new(0),
+            is_at_rest: AtomicBool::new(false),
+            calls: AtomicU64::new(0),
+            counted_from: AtomicU64::new(0),
+            are_frequent: AtomicBool::new(false),
             ahead: AtomicU64::new(0),
             hurried_to: AtomicU64::new(0),
         }
@@ -95,6 +111,23 @@ impl ShardPace {
         Some(due)
     }
 
+    /// A turn begins at this moment: what others do from now on its turner may not see before it rests again.
+    pub fn begin_turn(&self, now: u64) {
+        self.is_at_rest.store(false, Ordering::SeqCst);
+        let passed = now.saturating_sub(self.counted_from.load(Ordering::SeqCst));
+        if passed >= COUNTED {
+            let calls = self.calls.swap(0, Ordering::SeqCst);
+            let are_frequent = calls.saturating_mul(APART) > passed;
+            self.are_frequent.store(are_frequent, Ordering::SeqCst);
+            self.counted_from.store(now, Ordering::SeqCst);
+        }
+    }
+
+    /// A post or an answer came to it.
+    pub fn note_call(&self) {
+        let _before = self.calls.fetch_add(1, Ordering::SeqCst);
+    }
+
     /// A turn was made, or was refused memory. What is due next isn't known.
     pub fn note_turn(&self, is_refused: bool) {
         self.is_refused.store(is_refused, Ordering::SeqCst);
@@ -104,6 +137,24 @@ impl ShardPace {
     /// A turn found nothing, and this is when something is due next by the time alone, if anything is.
     pub fn note_due(&self, due: Option<u64>) {
         self.due.store(due.unwrap_or(u64::MAX), Ordering::SeqCst);
+        self.is_at_rest.store(true, Ordering::SeqCst);
+    }
+
+    /// Whether its turner rests by the clock until something is due, so that it need not be rung for what is due later.
+    /// Where calls come often it is rung by each: what is done by many small turns keeps none of them waiting for long.
+    pub fn is_at_rest(&self) -> bool {
+        let is_calm = !self.are_frequent.load(Ordering::SeqCst) && !self.is_slow();
+        is_calm && self.is_at_rest.load(Ordering::SeqCst)
+    }
+
+    /// Whether its turner is to be rung, where something is due at this moment next, or nothing is.
+    pub fn has_to_hear(&self, due: Option<u64>) -> bool {
+        !self.is_at_rest() || due.unwrap_or(u64::MAX) < self.due.load(Ordering::SeqCst)
+    }
+
+    /// Its turner is rung: it rests no longer.
+    pub fn note_ring(&self) {
+        self.is_at_rest.store(false, Ordering::SeqCst);
     }
 
     /// A turn gave a job.

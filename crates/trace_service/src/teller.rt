@@ -32,23 +32,49 @@ impl<'h, R: Wait> Teller<'h, R> {
         self.signals.bells().ring_shard(shard);
     }
 
-    /// An answer was taken at this shard.
+    /// An answer was taken at this shard. Its turner is told by `tell_due`.
     pub fn answered(&mut self, shard: usize) {
         if let Some(pace) = self.signals.paces().shard(shard) {
             pace.end_job();
         }
-        self.made(shard);
+        self.sate();
     }
 
-    /// Another turn begins, so the job of the one before is in the lane, if it gave one.
-    pub fn begin_turn(&mut self) {
+    /// A post or an answer came to this shard: whether its turner rests until something is due there, so that it need
+    /// not be rung for what is later.
+    pub fn called(&self, shard: usize) -> bool {
+        match self.signals.paces().shard(shard) {
+            Some(pace) => {
+                pace.note_call();
+                pace.is_at_rest()
+            }
+            None => false,
+        }
+    }
+
+    /// Something is due at this shard at this moment next, or nothing is: its turner is rung where it doesn't know that
+    /// it has to look by then.
+    pub fn tell_due(&self, shard: usize, due: Option<u64>) {
+        if let Some(pace) = self.signals.paces().shard(shard) {
+            if pace.has_to_hear(due) {
+                pace.note_ring();
+                self.signals.bells().ring_shard(shard);
+            }
+        }
+    }
+
+    /// Another turn of this shard begins at this moment, so the job of the one before is in the lane, if it gave one.
+    pub fn begin_turn(&mut self, shard: usize, now: u64) {
+        if let Some(pace) = self.signals.paces().shard(shard) {
+            pace.begin_turn(now);
+        }
         if self.gave {
             self.gave = false;
             self.signals.bells().ring_lane();
         }
     }
 
-    /// A turn of this shard came to this. Where it did something, another may be worth while.
+    /// A turn of this shard came to this. Its turner goes on by itself where that did something.
     pub fn end_turn(&mut self, shard: usize, turned: &TurnResult) {
         self.note(shard, false);
         self.signals.tally().end_turn(turned);
@@ -58,10 +84,9 @@ impl<'h, R: Wait> Teller<'h, R> {
                 if let Some(pace) = self.signals.paces().shard(shard) {
                     pace.begin_job();
                 }
-                self.made(shard);
+                self.sate();
             }
-            TurnResult::Worked => self.made(shard),
-            TurnResult::Idle => self.sate(),
+            TurnResult::Worked | TurnResult::Idle => self.sate(),
         }
     }
 

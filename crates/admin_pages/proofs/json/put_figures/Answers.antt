@@ -1,4 +1,3 @@
-use Rattle.std.proofs.Common.{refl}
 use Rattle.admin_pages.specs.Json.{figures_text}
 use Rattle.admin_pages.proofs.Joined.{more}
 use Rattle.admin_pages.proofs.Pieces.{last}

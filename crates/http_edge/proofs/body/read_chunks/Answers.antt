@@ -14,12 +14,13 @@ returns-in_err-more-clause-on_error g c =
 pub reads-preserved : goal.reads-preserved
 reads-preserved g c =
     let inv = c.reads.invariant in
-    let p = c.in_ok-taken.ensures.pieces (c.args.buffer.now.items ++ inv.read) (rw c.deref-in-reads.ensures.value inv.so_far.1)
-    in
+    let p = c.in_ok-taken.ensures.pieces (c.args.buffer.now.items ++ inv.read) inv.body (rw c.deref-in-reads.ensures.value
+    inv.so_far.1) inv.so_far.2 in
     let q = rw (c.in-More.is, c.deref-in-reads.ensures.value) at p in
     let e = c.in_ok-more.ensures.on_success in
     record {
       read = inv.read ++ e.0;
+      body = q.0;
       so_far = (
         then inv.so_far.0 e.1,
         rw (
@@ -27,9 +28,11 @@ reads-preserved g c =
           c.drop_front.ensures,
           ← append_assoc c.args.buffer.now.items
               inv.read e.0,
-        ) (at_more _ _ _ _ e.0 q.0),
+        ) (at_more _ _ _ _ e.0 q.1),
+        q.2,
       );
       fits = c.in_ok-taken.ensures.fits;
+      wanted = c.in_ok-taken.ensures.wanted ∙ inv.wanted;
       work = omega (
         arith,
         c.in_ok-more.ensures.work,
@@ -46,8 +49,10 @@ reads-preserved g c =
 pub reads-init : goal.reads-init
 reads-init g c = record {
   read = [];
-  so_far = (no_call, search rules);
+  body = [];
+  so_far = (no_call, search rules, record { len = refl; bytes = search rules });
   fits = search rules;
+  wanted = refl;
   work = search rules;
   kept = refl;
   ends = search rules;

@@ -1,14 +1,16 @@
-use Rattle.std.proofs.Common.{◌≡◌, ◌+◌, ◌<◌, ◌≤◌, true, List, ℕ, [], ◌++◌, length}
+use Rattle.std.proofs.Common.{◌≡◌, ◌+◌, ◌<◌, ◌≤◌, true, List, ℕ, [], ◌++◌}
 use Rattle.http_edge.specs.Limits.{max_body}
 use Rattle.http_line.specs.Line.{Moves}
 use Rattle.http_edge.specs.Steps.{work}
-use Rattle.http_edge.specs.Stages.{bytes_due, IsAt}
+use Rattle.http_edge.specs.Stages.{bytes_due, Gathers, IsAt}
 use Rattle.http_edge.proofs.body.read_chunks.Given as goal
 
-pub record Reads (P : List ℕ → Type 0) (F Q R S E : Type 0) : Type 0 where
+pub record Reads (P : List ℕ → List ℕ → Type 0) (F W Q R S E : Type 0) : Type 0 where
   pub read : List ℕ
-  pub so_far : P read
+  pub body : List ℕ
+  pub so_far : P read body
   pub fits : F
+  pub wanted : W
   pub work : Q
   pub kept : R
   pub ends : S
@@ -16,9 +18,10 @@ pub record Reads (P : List ℕ → Type 0) (F Q R S E : Type 0) : Type 0 where
 
 abbrev pub invariant-reads : goal.invariant-reads
 invariant-reads g l = Reads
-    (λ read. Moves g.L.Line.gives g.L.Line.takes l.fn.line l.line read []
-    × IsAt (l.fn.buffer.items ++ read) l.part l.body.items l.buffer.items)
-    (length l.body.items + bytes_due l.part ≤ max_body)
+    (λ read body. Moves g.L.Line.gives g.L.Line.takes l.fn.line l.line read []
+    × IsAt (l.fn.buffer.items ++ read) l.part body l.buffer.items × Gathers body l.body)
+    (l.body.len + bytes_due l.part ≤ max_body)
+    (l.body.wanted ≡ l.wanted)
     (work (g.L.Line.reads_left l.line) l.buffer.items ≤ work (g.L.Line.reads_left l.fn.line) l.fn.buffer.items)
     (g.L.Line.failed l.line ≡ g.L.Line.failed l.fn.line)
     (g.L.Line.ends l.fn.line ≤ g.L.Line.ends l.line)

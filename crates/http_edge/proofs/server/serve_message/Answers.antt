@@ -7,7 +7,7 @@ use Rattle.http_edge.specs.Talk.{Due, Ends, exchange_text, waits, refuses, refus
 use Rattle.http_edge.specs.Reply.{continue_text, refusal_text}
 use Rattle.http_line.proofs.Moved.{then_to}
 use Rattle.http_edge.proofs.Heads.{has_head_more, head_some}
-use Rattle.http_edge.proofs.Served.{cut_text, due_interim, due_reply, lacks_reply, may_interim, first_moves, all_moves, whole_message, reply_whole, not_is, not_is_not}
+use Rattle.http_edge.proofs.Served.{cut_text, due_interim, due_reply, lacks_reply, may_interim, first_moves, all_moves, whole_message, message_kept, reply_whole, not_is, not_is_not}
 use Rattle.http_edge.proofs.server.serve_message.Goals as goal
 
 pub returns-in_err-interim-clause-on_error : goal.returns-in_err-interim-clause-on_error
@@ -115,11 +115,12 @@ returns-in_err-goes-in-Whole-clause-on_error g c =
     let h = c.requires.0 in
     let is = c.requires.1 in
     let e = c.in_ok-read_body.ensures.on_success in
-    let r : IsRead (frame_by c.args.head.kind) (drop c.args.head.len c.args.buffer.now.items
+    let r : IsRead c.is_none.result (frame_by c.args.head.kind) (drop c.args.head.len c.args.buffer.now.items
     ++ e.0) c.read_body.new.buffer.items (Whole c.in-Whole.body) = rw c.in-Whole.is
     at e.2 in
-    let has = whole_message e.0 c.in-Whole.body.items c.read_body.new.buffer.items is r.0 r.1 in
-    let a = c.in_err-goes-in-Whole.ensures.on_error h is.says in
+    let has = whole_message e.0 r.0 c.read_body.new.buffer.items is r.1 r.2 in
+    let kept = message_kept c.reply_to_head-settled.result c.is_none.result c.in-Whole.body.items r.0 c.is_none.ensures is.says r.3 in
+    let a = c.in_err-goes-in-Whole.ensures.on_error (message_with h r.0) kept in
     let p = err_from_is_err_and c.from_residual-in_err-goes-in-Whole.result
     c.from_residual-in_err-goes-in-Whole.ensures.1 in
     let same = p.2 in
@@ -132,7 +133,7 @@ returns-in_err-goes-in-Whole-clause-on_error g c =
         due = due_reply g.H.Handler.answers (c.args.buffer.now.items ++ e.0) c.read_body.new.buffer.items has a.3;
       };
       short = λ lack.
-          let s = c.in_err-goes-in-Whole.ensures.short (cc) h is.says in
+          let s = c.in_err-goes-in-Whole.ensures.short (cc) (message_with h r.0) kept in
           record {
             read = e.0;
             written = interim_text h;
@@ -207,20 +208,21 @@ returns-in_ok-goes-in-Whole-clause-stays_open g c = λ eq.
     let h = c.requires.0 in
     let is = c.requires.1 in
     let e = c.in_ok-read_body.ensures.on_success in
-    let r : IsRead (frame_by c.args.head.kind) (drop c.args.head.len c.args.buffer.now.items
+    let r : IsRead c.is_none.result (frame_by c.args.head.kind) (drop c.args.head.len c.args.buffer.now.items
     ++ e.0) c.read_body.new.buffer.items (Whole c.in-Whole.body) = rw c.in-Whole.is
     at e.2 in
-    let a = c.in_ok-goes-in-Whole.ensures.on_success h is.says in
+    let kept = message_kept c.reply_to_head-settled.result c.is_none.result c.in-Whole.body.items r.0 c.is_none.ensures is.says r.3 in
+    let a = c.in_ok-goes-in-Whole.ensures.on_success (message_with h r.0) kept in
     let went : c.in_ok-goes-in-Whole.goes ≡ true = cc in
     record {
       read = e.0;
-      exchange = record { message = message_with h c.in-Whole.body.items; reply = a.2.reply };
+      exchange = record { message = message_with h r.0; reply = a.2.reply };
       moves = rw (
         reply_whole g.H.Handler.answers a.2,
         append-nil (interim_text h
             ++ a.0),
       ) (all_moves c.args.head.expects h is.says.expects c.in_ok-interim.ensures.on_success e.1 a.1);
-      has = whole_message e.0 c.in-Whole.body.items c.read_body.new.buffer.items is r.0 r.1;
+      has = whole_message e.0 r.0 c.read_body.new.buffer.items is r.1 r.2;
       stays = not_is (closes h) c.in_ok-goes-in-Whole.goes a.3 went;
       answered = a.2.answered;
     }
@@ -230,23 +232,24 @@ returns-in_ok-goes-in-Whole-clause-closes g c = λ eq.
     let h = c.requires.0 in
     let is = c.requires.1 in
     let e = c.in_ok-read_body.ensures.on_success in
-    let r : IsRead (frame_by c.args.head.kind) (drop c.args.head.len c.args.buffer.now.items
+    let r : IsRead c.is_none.result (frame_by c.args.head.kind) (drop c.args.head.len c.args.buffer.now.items
     ++ e.0) c.read_body.new.buffer.items (Whole c.in-Whole.body) = rw c.in-Whole.is
     at e.2 in
-    let a = c.in_ok-goes-in-Whole.ensures.on_success h is.says in
+    let kept = message_kept c.reply_to_head-settled.result c.is_none.result c.in-Whole.body.items r.0 c.is_none.ensures is.says r.3 in
+    let a = c.in_ok-goes-in-Whole.ensures.on_success (message_with h r.0) kept in
     let went : c.in_ok-goes-in-Whole.goes ≡ false = cc in
     record {
       read = e.0;
-      text = exchange_text (record { message = message_with h c.in-Whole.body.items; reply = a.2.reply });
+      text = exchange_text (record { message = message_with h r.0; reply = a.2.reply });
       over = true;
       moves = rw (
         reply_whole g.H.Handler.answers a.2,
         append-nil (interim_text h
             ++ a.0),
       ) (all_moves c.args.head.expects h is.says.expects c.in_ok-interim.ensures.on_success e.1 a.1);
-      ends = closing (record { message = message_with h c.in-Whole.body.items; reply = a.2.reply })
-          c.read_body.new.buffer.items (whole_message e.0 c.in-Whole.body.items c.read_body.new.buffer.items is r.0
-          r.1) (not_is_not (closes h) c.in_ok-goes-in-Whole.goes a.3 went) a.2.answered;
+      ends = closing (record { message = message_with h r.0; reply = a.2.reply })
+          c.read_body.new.buffer.items (whole_message e.0 r.0 c.read_body.new.buffer.items is r.1
+          r.2) (not_is_not (closes h) c.in_ok-goes-in-Whole.goes a.3 went) a.2.answered;
       end = λ f. cc;
     }
 

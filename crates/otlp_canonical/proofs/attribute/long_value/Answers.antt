@@ -1,4 +1,4 @@
-use Rattle.std.proofs.Common.{rules, arith, ◌≡◌, Ok, Some, List, [], length}
+use Rattle.std.proofs.Common.{rules, arith, ◌≡◌, Ok, Some, [], length}
 use Rattle.std.proofs.lemmas.Bool.Decides.{nat_tests}
 use Rattle.pb_wire.specs.Grammar.{Bytes, entry}
 use Rattle.pb_wire.specs.Reading.{next_at}

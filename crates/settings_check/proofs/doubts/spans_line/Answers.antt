@@ -1,4 +1,4 @@
-use Rattle.std.proofs.Common.{◌≡◌, codes, false, ◌||◌, ◌==◌, ◌∙◌, arith}
+use Rattle.std.proofs.Common.{◌≡◌, codes, false, ◌==◌, ◌∙◌, arith}
 use Rattle.std.specs.Fmt.{decimal}
 use Rattle.std.specs.Prelude.{nat_le}
 use Rattle.std.proofs.lemmas.Grind.{common_steps}

@@ -1,5 +1,6 @@
-use Rattle.std.proofs.Common.{ap, ◌∙◌}
-use Rattle.settings_check.specs.Doubts.{endpoint_line, own_line, tenant_lines}
+use Rattle.std.proofs.Common.{map, ap, ◌∙◌}
+use Rattle.tail_settings.specs.Policy.{policy_view}
+use Rattle.settings_check.specs.Doubts.{endpoint_line, own_line, lines_of_policies, tenant_lines}
 use Rattle.settings_check.proofs.doubts.tenant_lines.Goals as goal
 
 pub returns : goal.returns
@@ -13,4 +14,6 @@ returns c =
     let retry = c.as_str-8.ensures.value ∙ c.in_ok-retry.ensures in
     let addresses = c.as_str-5.ensures.value ∙ (rw (endpoint, own) at c.in_ok-addresses.ensures) in
     let head = c.as_str-7.ensures.value ∙ (rw (addresses, spans) at c.in_ok-head.ensures) in
-    rw (head, retry) at c.in_ok-lines.ensures
+    let numbers = c.as_str-9.ensures.value ∙ (rw (head, retry) at c.in_ok-numbers.ensures) in
+    let policies = c.as_str-10.ensures.value ∙ c.in_ok-policies.ensures ∙ ap (λ ps. lines_of_policies name (map policy_view ps)) c.as_slice.ensures.value in
+    rw (numbers, policies) at c.in_ok-lines.ensures

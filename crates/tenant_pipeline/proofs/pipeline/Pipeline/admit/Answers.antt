@@ -1,18 +1,23 @@
-use Rattle.std.proofs.Common.{◌≡◌, ◌∙◌, ℕ, List, [], ◌∷◌, refl, sym, ap, Bool, true, false, Some, None}
+use Rattle.std.proofs.Common.{arith, ◌≡◌, ◌<◌, ◌+◌, ◌∙◌, ℕ, List, [], ◌∷◌, refl, sym, ap, subst, Bool, true, false, Some, None}
 use Rattle.std.specs.Prelude.{nat_lt}
+use Rattle.std.proofs.lemmas.Bool.Decides.{nat_tests}
 use Rattle.std.proofs.lemmas.Result.{on_ok_weaker}
 use Rattle.decision_cache.specs.Caches.{found}
-use Rattle.drop_ledger.specs.declared.places.Place.TheVariants.{Undecided}
+use Rattle.drop_ledger.specs.Ledger.{moved, taken}
+use Rattle.drop_ledger.specs.declared.places.Place.TheVariants.{Undecided, NotSampled}
 use Rattle.tenant_stores.specs.Part.{part}
 use Rattle.tenant_rules.specs.Arrivals.{trace_of}
 use Rattle.tenant_rules.specs.Machine.{cached_or_opens, come, counted_in, evicted, has_row, held, joins, opens, sampled_in}
 use Rattle.tenant_rules.specs.State.{State}
-use Rattle.tenant_rules.specs.Timers.{grouped}
+use Rattle.tenant_rules.specs.Timers.{grouped, recount}
 use Rattle.tenant_pipeline.specs.declared.journal.Journal.{Journal}
+use Rattle.tenant_pipeline.specs.declared.pipeline.Pipeline.{Pipeline}
 use Rattle.tenant_pipeline.specs.StateIn.{part_in, state_of}
-use Rattle.tenant_pipeline.specs.Posts.{arrival_at}
+use Rattle.tenant_pipeline.specs.Posts.{arrival_at, Came, IsSameTenant, IsWritten}
+use Rattle.tenant_pipeline.proofs.Holds.{recounted}
+use Rattle.tenant_pipeline.proofs.Late.{lost_came}
 use Rattle.tenant_pipeline.proofs.Placing.{came_by, written_same}
-use Rattle.tenant_pipeline.proofs.TraceStates.{it_comes_late, it_hits, it_joins, it_opens}
+use Rattle.tenant_pipeline.proofs.TraceStates.{it_comes_late, it_hits, it_is_lost, it_joins, it_opens}
 use Rattle.tenant_pipeline.proofs.pipeline.Pipeline.admit.Goals as goal
 
 pub returns-in-Waits-clause-came : goal.returns-in-Waits-clause-came
@@ -65,6 +70,43 @@ returns-in-Decided-true-clause-written c = λ start first written.
     let journal = c.args.journal.now in
     let ready : Journal = record { placed = c.reserve.new.self; undo = journal.undo; hits = journal.hits } in
     c.admit_late.ensures.written start first (written_same journal ready start own first p c.reserve.ensures.items refl refl written)
+
+pub returns-in-Decided-false-clause-came : goal.returns-in-Decided-false-clause-came
+returns-in-Decided-false-clause-came c =
+    let own = c.args.self.now in
+    let p = part own.tenant c.args.stores.now in
+    let s = state_of own p in
+    let m = c.args.moment in
+    let x = arrival_at p c.args.keys.now.keys c.args.span.now.text in
+    let journal = c.args.journal.now in
+    let ready : Journal = record { placed = c.reserve.new.self; undo = journal.undo; hits = journal.hits } in
+    let room : nat_lt (held s) s.section.max_spans ≡ true = sym c.has_room.ensures ∙ c.if-not-has_room.false in
+    let test : nat_lt (own.ledger.places.undecided + own.ledger.places.pending) own.section.max_spans ≡ true = room in
+    let budget : own.ledger.places.undecided + own.ledger.places.pending < own.section.max_spans = grind (arith, nat_tests, test) in
+    let trace = c.requires.coming.1.trace in
+    let its_state = c.in-Decided-false.ensures.state in
+    let none : has_row (trace_of x) s.waiting ≡ false = ap (λ (t : List ℕ). has_row t s.waiting) (sym trace) ∙ its_state.0 in
+    let sampled : sampled_in (trace_of x) s.settled ≡ Some false =
+    ap (λ (t : List ℕ). sampled_in t s.settled) (sym trace) ∙ (its_state.1 ∙ ap (λ (b : Bool). Some b) c.in-Decided-false.field-0-test) in
+    let new : Pipeline = record own { ledger = moved Undecided NotSampled 1 (taken 1 own.ledger) } in
+    subst (λ (o : Pipeline). Came (come m x) m journal ready own o p (part_in o c.args.stores.now)) (sym c.count_unsampled.ensures)
+    (came_by (λ (t : State). recount Undecided NotSampled 1 (counted_in t)) (come m x) m ready journal ready own new p p
+    (it_is_lost m x s room none sampled) refl (lost_came own p m c.requires.fits budget ready ready refl))
+
+pub returns-in-Decided-false-clause-written : goal.returns-in-Decided-false-clause-written
+returns-in-Decided-false-clause-written c = λ start first written.
+    let own = c.args.self.now in
+    let p = part own.tenant c.args.stores.now in
+    let journal = c.args.journal.now in
+    let ready : Journal = record { placed = c.reserve.new.self; undo = journal.undo; hits = journal.hits } in
+    subst (λ (o : Pipeline). IsWritten ready start o first (part_in o c.args.stores.now)) (sym c.count_unsampled.ensures)
+    (recounted (moved Undecided NotSampled 1 (taken 1 own.ledger)) ready start own first p (written_same journal ready start own first p c.reserve.ensures.items refl refl written))
+
+pub returns-in-Decided-false-clause-same : goal.returns-in-Decided-false-clause-same
+returns-in-Decided-false-clause-same c =
+    let own = c.args.self.now in
+    let is : IsSameTenant own (record own { ledger = moved Undecided NotSampled 1 (taken 1 own.ledger) }) = record { tenant = refl; section = refl; clock = refl; drained = refl } in
+    subst (λ (o : Pipeline). IsSameTenant own o) (sym c.count_unsampled.ensures) is
 
 pub hit-requires-clause-known : goal.hit-requires-clause-known
 hit-requires-clause-known c = c.in-Cached.ensures.state.2

@@ -1,20 +1,17 @@
-use Rattle.std.proofs.Common.{◌≡◌, ◌++◌, ◌∙◌, ℕ, List, [], ◌∷◌, refl, sym, ap, subst, Bool, true, false, Some}
+use Rattle.std.proofs.Common.{◌≡◌, ◌++◌, ◌∙◌, ℕ, List, [], ◌∷◌, sym, ap, subst, Bool, true, Some}
 use Rattle.std.specs.Prelude.{Result, Ok, Err, OnOk, OnErr}
 use Rattle.std.proofs.lemmas.Result.{on_ok_weaker}
 use Rattle.decision_cache.specs.Caches.{CachesData, found, noted_in, shown}
-use Rattle.drop_ledger.specs.Ledger.{LedgerData, moved, taken}
-use Rattle.drop_ledger.specs.declared.places.Place.TheVariants.{Undecided, NotSampled}
+use Rattle.drop_ledger.specs.declared.places.Place.TheVariants.{Undecided}
 use Rattle.tenant_rules.specs.Arrivals.{trace_of}
 use Rattle.tenant_rules.specs.Machine.{cached_or_opens, counted_in}
 use Rattle.tenant_rules.specs.State.{State}
-use Rattle.tenant_rules.specs.Timers.{grouped, recount}
+use Rattle.tenant_rules.specs.Timers.{grouped}
 use Rattle.tenant_pipeline.specs.declared.pipeline.Pipeline.{Pipeline}
 use Rattle.tenant_pipeline.specs.StateIn.{part_in, state_of}
-use Rattle.tenant_pipeline.specs.Posts.{arrival_at, Came, IsWritten}
-use Rattle.tenant_pipeline.specs.Undo.{hits_undone}
-use Rattle.tenant_pipeline.proofs.Hits.{came_after, came_before, group_hits, hit_written, same_cached}
-use Rattle.tenant_pipeline.proofs.Late.{lost_came}
-use Rattle.tenant_pipeline.proofs.Placing.{takes_back}
+use Rattle.tenant_stores.specs.Part.{part}
+use Rattle.tenant_pipeline.specs.Posts.{arrival_at, Came, CameUnsampled, IsWritten}
+use Rattle.tenant_pipeline.proofs.Hits.{came_before, group_hits, hit_written, same_cached}
 use Rattle.tenant_pipeline.proofs.pipeline.Pipeline.hit.Goals as goal
 
 -- what holds whatever the result
@@ -63,43 +60,27 @@ returns-then-sampled-clause-same c = same_cached c.args.self.now c.admit_late.ne
 
 -- ---- of one that wasn't
 
-pub push_hit-requires-2 : goal.push_hit-requires-2
-push_hit-requires-2 c = record { there = c.requires.known ∙ ap (λ (b : Bool). Some b) c.if-sampled.false }
-
-pub returns-in_err-push_hit-clause-written : goal.returns-in_err-push_hit-clause-written
-returns-in_err-push_hit-clause-written c = λ start first written.
-    let own = c.args.self.now in
-    let p = part_in own c.args.stores.now in
-    subst (λ (k : CachesData). let o : Pipeline = record own { caches = k } in IsWritten c.args.journal.now start o first p) (sym c.in_err-push_hit.ensures.on_refusal) written
+pub hit_unsampled-requires-clause-known : goal.hit_unsampled-requires-clause-known
+hit_unsampled-requires-clause-known c = c.requires.known ∙ ap (λ (b : Bool). Some b) c.if-sampled.false
 
 pub returns-clause-came : goal.returns-clause-came
 returns-clause-came c =
     let own = c.args.self.now in
+    let new = c.hit_unsampled.new.self in
     let p = part_in own c.args.stores.now in
     let m = c.args.moment in
     let x = arrival_at p c.args.keys.now.keys c.args.span.now.text in
-    let trace = c.requires.coming.1.trace in
-    let caches : CachesData = c.push_hit-2.new.self in
-    let mid : Pipeline = record own { caches = caches } in
     let journal = c.args.journal.now in
-    let here : shown caches ≡ noted_in false (trace_of x) (shown own.caches) = c.in_ok-push_hit.ensures.shown ∙ ap (λ (t : List ℕ). noted_in false t (shown own.caches)) trace in
-    let t : State = counted_in (state_of own p) in
-    let came = came_after own p caches false (trace_of x) here (λ (s : State). recount Undecided NotSampled 1 (counted_in s)) (λ (s : State). cached_or_opens m x (Some c.args.sampled) (counted_in s))
-    m journal journal (record mid { ledger = moved Undecided NotSampled 1 (taken 1 own.ledger) }) p (ap (λ (b : Bool). cached_or_opens m x (Some b) t) (sym c.if-sampled.false))
-    (lost_came mid p m c.requires.fits c.requires.budget journal journal refl) in
-    let ledger : moved Undecided NotSampled 1 (taken 1 own.ledger) ≡ c.move_spans.new.self = sym (c.move_spans.ensures ∙ ap (moved Undecided NotSampled 1) c.take.ensures) in
-    subst (λ (l : LedgerData). let o : Pipeline = record mid { ledger = l } in Came (λ (s : State). cached_or_opens m x (Some c.args.sampled) (counted_in s)) m journal journal own o p p) ledger came
+    on_ok_weaker c.hit_unsampled.result
+    (λ (came : CameUnsampled c.args.span.now.trace own new).
+    let here = subst (λ (b : Bool). Came (λ (s : State). cached_or_opens m x (Some b) (counted_in s)) m journal journal own new p p) (sym c.if-sampled.false) (came p m journal x c.requires.coming.1.trace) in
+    subst (λ (t : ℕ). Came (λ (s : State). cached_or_opens m x (Some c.args.sampled) (counted_in s)) m journal journal own new p (part t c.args.stores.now)) (sym c.hit_unsampled.ensures.same.tenant) here)
+    c.hit_unsampled.ensures.came
 
 pub returns-clause-written : goal.returns-clause-written
 returns-clause-written c = λ start first written.
     let own = c.args.self.now in
+    let new = c.hit_unsampled.new.self in
     let p = part_in own c.args.stores.now in
-    let caches : CachesData = c.push_hit-2.new.self in
-    let mid : Pipeline = record own { caches = caches } in
-    let journal = c.args.journal.now in
-    let there = hit_written journal start own first p (c.args.span.now.trace, false) caches c.in_ok-push_hit.ensures.hits written in
-    record {
-      trail = there.trail;
-      undo = takes_back journal.undo start (hits_undone journal.hits mid) own.rows c.move_spans.new.self there.undo;
-      hits = there.hits;
-    }
+    subst (λ (t : ℕ). IsWritten c.args.journal.now start new first (part t c.args.stores.now)) (sym c.hit_unsampled.ensures.same.tenant)
+    (c.hit_unsampled.ensures.written p first c.args.journal.now start written)

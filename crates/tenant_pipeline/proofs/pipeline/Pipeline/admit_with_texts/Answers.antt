@@ -1,0 +1,43 @@
+use Rattle.std.proofs.Common.{◌++◌}
+use Rattle.std.proofs.lemmas.Result.{on_ok_weaker}
+use Rattle.tenant_pipeline.specs.Posts.{held_keys}
+use Rattle.tenant_pipeline.specs.StateIn.{counts_in, part_in}
+use Rattle.tenant_pipeline.proofs.Holds.{came_held, is_coming_held, written_kept, written_more, written_on}
+use Rattle.tenant_pipeline.proofs.pipeline.Pipeline.admit_with_texts.Goals as goal
+
+pub returns-in_err-place-clause-written : goal.returns-in_err-place-clause-written
+returns-in_err-place-clause-written c = λ start first written.
+    let own = c.args.self.now in
+    let refused = c.in_err-place.ensures in
+    let posting = c.requires.next.posting in
+    written_kept c.args.held.now c.hold.new.self c.args.journal.now start own first (part_in own c.args.stores.now) (part_in own c.hold.new.stores) refused.on_refusal
+    (refused.part_on_refusal (counts_in own) (c.args.journal.now.undo.gone.items ++ own.batcher.spans) (held_keys c.args.held.now) posting.holds.sound) written
+
+pub admit-requires-clause-coming : goal.admit-requires-clause-coming
+admit-requires-clause-coming c =
+    let own = c.args.self.now in
+    let made = c.in_ok-place.ensures in (
+      held_keys c.hold.new.self,
+      is_coming_held c.args.moment c.args.journal.now c.args.origins.now c.args.held.now c.hold.new.self c.args.span.now own (part_in own c.args.stores.now) (part_in own c.hold.new.stores) c.requires.next
+          made.uses_added made.store_invariant made.shows c.in_ok-place.place c.index.result.now made.place c.index.ensures made.origin made.origins,
+    )
+
+pub returns-clause-came : goal.returns-clause-came
+returns-clause-came c =
+    let own = c.args.self.now in
+    let made = c.in_ok-place.ensures in
+    on_ok_weaker c.admit.result
+    (came_held c.args.moment c.args.journal.now c.args.origins.now c.args.held.now c.hold.new.self c.args.span.now own (part_in own c.args.stores.now) (part_in own c.hold.new.stores) c.requires.next
+    made.uses_added made.store_invariant made.shows c.in_ok-place.place c.index.result.now made.place c.index.ensures made.origin made.origins
+    c.admit.new.journal c.admit.new.self (part_in c.admit.new.self c.admit.new.stores))
+    c.admit.ensures.came
+
+pub returns-clause-written : goal.returns-clause-written
+returns-clause-written c = λ start first written.
+    let own = c.args.self.now in
+    let new = c.admit.new.self in
+    let made = c.in_ok-place.ensures in
+    let q = part_in own c.hold.new.stores in
+    written_on c.hold.new.self c.args.journal.now c.admit.new.journal own new q (part_in new c.admit.new.stores) c.admit.ensures.written start first
+    (written_more c.args.moment c.args.journal.now c.args.origins.now c.args.held.now c.hold.new.self c.args.span.now own (part_in own c.args.stores.now) q c.requires.next
+    made.uses_added made.store_invariant made.shows start first written)
