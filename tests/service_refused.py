@@ -423,8 +423,15 @@ class DrainedByCall(Draining):
     def ask(self):
         return self.service.ask("/drain", "POST")[0]
 
+    def is_draining(self):
+        """Once all is sent it ends, and its port with it."""
+        try:
+            return self.service.ask("/readyz")[0] == 503
+        except ConnectionError:
+            return True
+
     def again(self):
-        if self.service.ask("/readyz")[0] != 503:
+        if not self.is_draining():
             check("a drain", self.service.ask("/drain", "POST")[0], 200)
         check("its end", self.service.end(), self.wanted())
 
