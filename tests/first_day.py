@@ -120,14 +120,15 @@ def command(page, begin):
     return next(found for found in commands_of(page) if found.startswith(begin))
 
 
-def started_by_hand(folder):
-    """README's three terminals: half a second after the post the first says what came, the second tells counters, lets
-    a tenant come and go, and ends in order."""
-    terminal, page = Terminal(folder), "README.md"
+def by_standard_input(folder):
+    """The first ten minutes without the port: half a second after the post the back end says what came, and lines of standard
+    input tell counters and have a tenant come and go; their end is a drain."""
+    terminal, page = Terminal(folder), "docs/OPERATING.md"
+    serve = command(page, "./trace_collector serve examples/service.toml").replace(" --admin 127.0.0.1:9464", "")
     with terminal.start(command(page, "python3 examples/back_end.py")) as back_ends, \
-            terminal.start(command(page, "./trace_collector serve")) as service:
+            Started(["bash", "-c", f"exec {serve}"], folder) as service:
         service.says("serving at 127.0.0.1:4318")
-        status, said = terminal.type(command(page, "curl -i"))
+        status, said = terminal.type(command(page, "curl -i http://127.0.0.1:4318"))
         check("the post", (status, "HTTP/1.1 200 OK" in said), (0, True))
         back_ends.says("back end at 4319: POST /v1/traces, 214 bytes")
         # The answer is counted a moment after the back end has said what came.
@@ -221,7 +222,7 @@ def replayed(folder):
     check("its answers", terminal.type(second), (0, wanted))
 
 
-TESTS = (shown, started_by_hand, first_ten_minutes, tenants_and_tokens, replayed)
+TESTS = (shown, by_standard_input, first_ten_minutes, tenants_and_tokens, replayed)
 ALL = {found for page in PAGES for found in commands_of(page)}
 
 

@@ -17,8 +17,7 @@ import sys
 from pathlib import Path
 
 from serving import runs, talk
-from serving.admin import free_port
-from serving.talk import MOST, BackEnd, body, check, globals_of, head_of, line_of, read_message, tenant, wait_for
+from serving.talk import MOST, BackEnd, body, check, free_port, globals_of, head_of, line_of, read_message, tenant, wait_for
 
 HERE = Path(__file__).resolve().parent.parent
 FILES = {"bin/trace_collector": 0o755, "share/man/man1/trace_collector.1": 0o644,

@@ -30,6 +30,7 @@ KNOWN = [
     ("span_pool/src/pool.rt", "put", 1, "a key has 32 bits, and the vacant one has more"),
     ("text_pool/src/pool.rt", "put", 1, "the same of a text"),
     ("tenant_pipeline/src/outbox.rt", "offer", 1, "the queue gives the batch back with its want of memory"),
+    ("tenant_pipeline/src/unsent.rt", "write", 1, "the queue gives the batch back with its want of memory"),
     ("tail_settings/src/document.rt", "table", 1, "the TOML reader's error says that it is want of memory"),
     ("trace_collector_program/src/serve.rt", "from", 1, "a thread wasn't started for want of what one is started with"),
     ("tenant_shard/src/shard.rt", "run", 2, "room for the outcomes was refused, or a step was"),
@@ -38,7 +39,7 @@ KNOWN = [
     ("trace_service/src/changes.rt", "added", 1, "there was no memory to hear what is answered: it is no text"),
     ("trace_service/src/changes.rt", "add_answered", 1, "there was no memory to hear what is answered"),
     ("trace_service/src/changes.rt", "not_added", 1, "the line that is answered says so"),
-    ("trace_service/src/changes.rt", "retired", 1, "there was no memory to hear what is answered: it is no text"),
+    ("trace_service/src/changes.rt", "retire_told", 1, "there was no memory to hear what is answered: it is no text"),
     ("trace_service/src/changes.rt", "retire_answered", 1, "there was no memory to hear what is answered"),
     ("trace_service/src/comings.rt", "from", 1, "of a document's faults want of memory alone has no number"),
 ]

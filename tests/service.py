@@ -41,6 +41,8 @@ BY_HAND = {test.__name__: test for test in (*short.BY_HAND, *admin.BY_HAND)}
 def main():
     words = sys.argv[1:]
     talk.program = os.path.abspath(words.pop(0) if words and words[0] not in (*TESTS, *BY_HAND, "comings") else HERE / "trace_collector")
+    if not os.access(talk.program, os.X_OK):
+        sys.exit(f"service.py: there is no program, and no test, {talk.program}")
     if len(words) == 1 and words[0].isdigit():
         run("agreement", lambda folder: print(agreement.agrees(folder, int(words[0])), "spans", flush=True))
     elif len(words) == 2 and words[0] == "comings":

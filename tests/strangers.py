@@ -26,9 +26,9 @@ from pathlib import Path
 from urllib.parse import quote
 
 from serving import runs, talk
-from serving.admin import GAUGES, METRICS, LookedAfter, free_port
+from serving.admin import GAUGES, METRICS, LookedAfter
 from serving.agreement import SPAN
-from serving.talk import MOST, NAMES, BackEnd, Service, body, check, line_of, request, tenant, wait_for
+from serving.talk import MOST, NAMES, BackEnd, Service, body, check, free_port, line_of, request, tenant, wait_for
 
 try:
     import h11

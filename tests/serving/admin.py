@@ -12,8 +12,8 @@ from pathlib import Path
 from serving import talk
 from serving.exposition import families
 from serving.memory import ROOMS, SPANS, addresses, bytes_of
-from serving.talk import (BUSY, MOST, NAMES, BackEnd, Service, body, check, head_of, in_threads, line_of, read_message,
-                          tenant, wait_for)
+from serving.talk import (BUSY, MOST, NAMES, BackEnd, Service, body, check, head_of, in_threads, line_of, listening_ports,
+                          read_message, tenant, wait_for)
 
 TOKEN = "Zm9yIHRlc3RzIGFsb25l"
 GAUGES = ("undecided", "pending", "queued", "active")
@@ -42,33 +42,18 @@ JSON = "application/json"
 SCRAPES = 10
 
 
-def free_port():
-    with socket.socket() as probe:
-        probe.bind(("127.0.0.1", 0))
-        return probe.getsockname()[1]
-
-
 class LookedAfter(Service):
     """The service with a port for operators."""
 
     def __init__(self, folder, tenants, *options, **how):
-        self.admin = free_port()
-        # Connections that were made to see whether clients are served yet.
-        self.knocks = 0
-        super().__init__(folder, tenants, "--admin", f"127.0.0.1:{self.admin}", *options, port=free_port(), **how)
-        self.main = int(Path(folder, "settings.toml").read_text().split("127.0.0.1:")[1].split('"')[0])
+        self.admin = None
+        super().__init__(folder, tenants, "--admin", "127.0.0.1:0", *options, **how)
 
     def is_up(self):
-        if self.run.poll() is not None:
-            raise RuntimeError(f"the service ended with {self.run.returncode}: {self.run.stderr.read()}")
-        self.port = self.main
-        for port in (self.main, self.admin):
-            try:
-                socket.create_connection(("127.0.0.1", port), timeout=MOST).close()
-            except ConnectionRefusedError:
-                return False
-            self.knocks += port == self.main
-        return True
+        """It listens for clients first, and then for operators."""
+        if super().is_up():
+            self.admin = next(iter(listening_ports(self.run.pid)[1:]), None)
+        return self.admin is not None
 
     def to_admin(self):
         return socket.create_connection(("127.0.0.1", self.admin), timeout=MOST)
@@ -117,8 +102,9 @@ class LookedAfter(Service):
 
 
 def figures(name, usage=EMPTY, **counts):
-    """What JSON tells of a tenant that is so full, of which nothing waits."""
-    return {"tenant": name, **{word: counts.get(word, 0) for word in NAMES}, **usage, "ready_at_ms": None}
+    """What JSON tells of a tenant that is so full, of which nothing waits, and whose back end wasn't asked yet."""
+    return {"tenant": name, **{word: counts.get(word, 0) for word in NAMES}, **usage, "ready_at_ms": None,
+            "back_end_status": None, "back_end_status_at_ms": None}
 
 
 def gone(name, **counts):
@@ -175,6 +161,23 @@ def check_moments(service, family):
     check("of it alone", service.told("/tenants/e")[1]["ready_at_ms"], round(moment * 1000))
 
 
+def check_answers(service, found):
+    """The one tenant whose spans were sent was told 200 last, and when, in families of their own, which are taken out;
+    by JSON too. Of the other, whose back end wasn't asked, there is no sample."""
+    status, moment = found.pop("nimchaes_back_end_last_status"), found.pop("nimchaes_back_end_last_status_uptime_seconds")
+    for family in (status, moment):
+        check("an answer is", family.kind, "gauge")
+        check("an answer has help", bool(family.help), True)
+    whose = (("tenant", "a.b-c_D"),)
+    check("who answered", status.samples, {whose: 200.0})
+    check("whose moment", list(moment.samples), [whose])
+    uptime = service.metric("otelcol_process_uptime_seconds_total")
+    check(f"at {moment.samples[whose]} of {uptime}", 0 < moment.samples[whose] < uptime + 1, True)
+    check("answers in JSON", [(row["back_end_status"], row["back_end_status_at_ms"])
+                              for row in service.told("/tenants")[1]["tenants"]],
+          [(200, round(moment.samples[whose] * 1000)), (None, None)])
+
+
 def check_usage(service, found, wanted):
     """How full these tenants are, in families of their own, which are taken out; by JSON too."""
     for word, metric in USAGE.items():
@@ -208,6 +211,7 @@ def scraped(folder):
                                            for name, counts in wanted.items()})
         check_usage(service, found, {"a.b-c_D": EMPTY | {"rows": 3}, "e": EMPTY | {"rows": 2, "undecided_rows": 2}})
         check_moments(service, found.pop("nimchaes_ready_uptime_seconds"))
+        check_answers(service, found)
         check("of the service", {name: family.kind for name, family in found.items()},
               {name: kind for kind, names in OF_SERVICE.items() for name in names})
         check("they have help", all(family.help for family in found.values()), True)
@@ -294,8 +298,7 @@ def counted(folder):
         def answers(kind):
             return service.metric("nimchaes_back_end_answers_total", **{"class": kind})
 
-        wait_for(lambda: service.metric("nimchaes_connections_total") == service.knocks, "those at the start come")
-        wait_for(lambda: service.metric("nimchaes_connections_open") == 0, "those at the start have ended")
+        check("none yet", service.metric("nimchaes_connections_total"), 0.0)
         sent = [head_of("a", len(body(1, span))) + body(1, span) for span in (1, 2)]
         sent.append(b"GET /x HTTP/1.1\r\nHost: a\r\n\r\n")
         with service.connect() as peer:
@@ -309,7 +312,7 @@ def counted(folder):
             peer.sendall(b"no HTTP\r\n\r\n")
             check("bad", read_message(peer.recv).split(b" ")[1], b"400")
         wait_for(lambda: service.metric("nimchaes_connections_open") == 0, "it has ended")
-        check("taken", service.metric("nimchaes_connections_total"), float(service.knocks + 1))
+        check("taken", service.metric("nimchaes_connections_total"), 1.0)
         check("by their statuses", service.requests(), {**dict.fromkeys(STATUSES, 0), "200": 2, "404": 1, "400": 1})
         wait_for(lambda: answers("2xx") > 0, "it is sent")
         idle, turns = (service.metric(f"nimchaes_{name}_total") for name in ("idle_turns", "turns"))
@@ -400,7 +403,7 @@ def with_token(folder):
                 status, fields, content = service.ask(target, method, more=more)
                 check(f"{method} {target} with {more!r}",
                       (status, fields.get("www-authenticate"), fields["content-type"], content),
-                      (401, "Bearer", JSON, b'{"error":"the token is missing or another"}'))
+                      (401, 'Bearer realm="nimchaes"', JSON, b'{"error":"the token is missing or another"}'))
         for target in ("/", "/healthz", "/readyz"):
             check(f"{target} without", service.ask(target)[0], 200)
         for scheme in ("Bearer ", "bearer   ", "Bearer", "bearer", "BEARER"):
@@ -475,9 +478,25 @@ def with_each_token(folder):
                 check("the end", service.run.wait(MOST), 0)
 
 
+def refused_in_json(folder):
+    """A message that isn't read whole is refused as JSON, like all that is refused there."""
+    with BackEnd() as back_end, LookedAfter(folder, [tenant("a", back_end)]) as service:
+        for message, status, words in ((b"no head\r\n\r\n", "400 Bad Request", "bad request"),
+                                       (b"GET /metrics HTTP/1.1\r\n" + b"a: b\r\n" * 65 + b"\r\n",
+                                        "431 Request Header Fields Too Large", "too many header fields"),
+                                       (b"POST /tenants HTTP/1.1\r\nHost: admin\r\nContent-Length: 20971521\r\n\r\n",
+                                        "413 Content Too Large", "body too large")):
+            told = f'{{"error":"{words}"}}'
+            wanted = f"HTTP/1.1 {status}\r\nContent-Type: {JSON}\r\nConnection: close\r\nContent-Length: {len(told)}\r\n\r\n{told}"
+            with service.to_admin() as peer:
+                peer.sendall(message)
+                check(status, read_message(peer.recv), wanted.encode())
+        check("the end", service.drained()[0], 0)
+
+
 def in_bytes(folder):
     """A request has no more bytes than it may, its head among them. Who sends more is told nothing, with the token or
-    without, and as much as that is all that is held of it."""
+    without, and of whoever has no token nothing is held."""
     most = 1_048_576
     file = Path(folder, "token")
     file.write_text(TOKEN + "\n")
@@ -503,7 +522,7 @@ def in_bytes(folder):
         large = b"POST /tenants HTTP/1.1\r\nHost: admin\r\nContent-Length: 20000000\r\n\r\n" + b"#" * 20_000_000
         in_threads(*[lambda: check("20 MB without the token", told(service, large), b"")] * 8)
         taken = bytes_of(service.run.pid, "VmHWM") - before
-        check(f"memory for eight of them: {taken}", taken < 8 * 3 * most, True)
+        check(f"memory for eight of them: {taken}", taken < most, True)
         check("with it", service.ask("/drain", "POST", more=right)[0], 200)
         check("the end", (service.run.stdout.read().decode(), service.run.wait(MOST)), (line_of("a") + line_of("new"), 0))
 
@@ -576,11 +595,14 @@ def asked_out_late(folder):
         start = time.monotonic()
         check("health", service.told("/healthz")[0], 200)
         check("figures", len(service.told("/tenants")[1]["tenants"]), 2)
-        check("another change", service.told("/tenants/a", "DELETE")[0], 503)
+        going = (503, {"error": "the tenant slow is going: try again"})
+        check("another change", service.told("/tenants/a", "DELETE"), going)
+        check("one that comes", service.told("/tenants", "POST", tenant("new", back_end).encode()), going)
+        check("the same change", service.told("/tenants/slow", "DELETE"), going)
         check("at once", time.monotonic() - start < 1, True)
         asking.join()
         check("it goes on", told, [(202, {"state": "it is being done"})])
-        check("another change still", service.told("/tenants/a", "DELETE")[0], 503)
+        check("another change still", service.told("/tenants/a", "DELETE"), going)
         busy.reply = talk.TAKEN
         check("it went", service.hear(), line_of("slow", accepted=1, exported=1))
         wait_for(lambda: service.told("/tenants/a", "DELETE")[0] == 200, "the other may go")
@@ -703,14 +725,14 @@ def without_input(folder):
     """An input that ends at once ends nothing, and isn't read."""
     with BackEnd() as back_end:
         settings = Path(folder, "settings.toml")
-        port, admin = free_port(), free_port()
-        settings.write_text(talk.globals_of(port) + tenant("a", back_end))
-        run = subprocess.Popen([talk.program, "serve", str(settings), "--admin", f"127.0.0.1:{admin}"],
+        settings.write_text(talk.globals_of() + tenant("a", back_end))
+        run = subprocess.Popen([talk.program, "serve", str(settings), "--admin", "127.0.0.1:0"],
                                stdin=subprocess.DEVNULL, stdout=subprocess.PIPE)
         try:
+            wait_for(lambda: len(listening_ports(run.pid)) == 2, "it listens")
             time.sleep(0.5)
             check("it serves", run.poll(), None)
-            with socket.create_connection(("127.0.0.1", admin), timeout=MOST) as peer:
+            with socket.create_connection(("127.0.0.1", listening_ports(run.pid)[1]), timeout=MOST) as peer:
                 peer.sendall(b"POST /drain HTTP/1.1\r\nHost: a\r\nContent-Length: 0\r\nConnection: close\r\n\r\n")
                 check("a drain", read_message(peer.recv).split(b"\r\n")[0], b"HTTP/1.1 200 OK")
             check("the end", (run.stdout.read().decode(), run.wait(MOST)), (line_of("a"), 0))
@@ -761,6 +783,49 @@ def told_of_back_ends(folder):
             check("the end", (status, lines), (0, due if verbose else []))
 
 
+def answered_last(folder):
+    """What a tenant's back end answered last is told of this tenant, and when: a status, or 0 where it ended early or
+    isn't there. Of one that comes under the name of one that went nothing is told."""
+    missing = b"HTTP/1.1 404 Not Found\r\nContent-Length: 0\r\n\r\n"
+    with BackEnd(BUSY) as bank, BackEnd(unread=1 << 30) as early:
+        nobody = BackEnd()
+        sections = {name: tenant(name, back_end) for name, back_end in
+                    (("bank", bank), ("early", early), ("nobody", nobody), ("idle", bank))}
+        with LookedAfter(folder, sections.values()) as service:
+            def told(name):
+                row = service.told(f"/tenants/{name}")[1]
+                return row["back_end_status"], row["back_end_status_at_ms"]
+
+            for name in sections:
+                check(f"nothing of {name}", told(name), (None, None))
+            moments = [0]
+            for number, (reply, status, counted) in enumerate(((BUSY, 503, "active"), (missing, 404, "back_end_refused"),
+                                                               (talk.TAKEN, 200, "exported")), 1):
+                bank.reply = reply
+                # The batch that was answered 503 is sent again, and then refused.
+                if status != 404:
+                    check("a post", service.post("bank", body(number, number)), (200, b""))
+                wait_for(lambda s=status, c=counted: told("bank")[0] == s and service.told("/tenants/bank")[1][c] == 1,
+                         f"it is told {status}")
+                if status != 503:
+                    moments.append(told("bank")[1])
+            check("later and later", 0 < moments[1] < moments[2], True)
+            uptime = service.metric("otelcol_process_uptime_seconds_total")
+            check(f"{moments[2]} of {uptime}", moments[2] < 1000 * (uptime + 1), True)
+            for name in ("early", "nobody"):
+                check("a post", service.post(name, body(9, 9)), (200, b""))
+                wait_for(lambda n=name: told(n)[0] == 0, f"{name} gave no whole answer")
+                check("at a moment", told(name)[1] > 0, True)
+            check("of nobody else", (told("bank")[0], told("idle")), (200, (None, None)))
+            check("it goes", service.told("/tenants/bank", "DELETE"), (200, gone("bank", accepted=2, exported=1,
+                                                                               back_end_refused=1)))
+            check("it comes", service.told("/tenants", "POST", sections["bank"].encode()), (201, {"tenant": "bank"}))
+            check("nothing of it", told("bank"), (None, None))
+            early.unread = 0
+            with nobody:
+                check("the end", service.drained()[0], 0)
+
+
 def scraped_often(folder):
     """A thousand tenants scraped each second cost less than 2 of 100 of a processor: prints how much, beside rest."""
     with BackEnd() as back_end, LookedAfter(folder, [tenant(f"tenant-{n}", back_end) for n in range(1000)]) as service:
@@ -785,7 +850,7 @@ def scraped_often(folder):
 
 
 TESTS = (looked_at, scraped, filled, in_force, counted, each_status, with_token, without_token, no_page_changes_anything, with_each_token,
-         in_bytes, asked_in, warned, asked_out_late, drained_beside_one_that_goes,
+         refused_in_json, in_bytes, asked_in, warned, asked_out_late, drained_beside_one_that_goes,
          drained_by_call, slow_lookers, asked_to_the_end, without_input, few_files,
-         told_of_back_ends)
+         told_of_back_ends, answered_last)
 BY_HAND = (scraped_often,)

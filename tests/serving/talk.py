@@ -36,6 +36,13 @@ def wait_for(is_so, what):
         time.sleep(0.005)
 
 
+def free_port():
+    """A port at which nobody listens now, for programs that can't have the system choose one."""
+    with socket.socket() as probe:
+        probe.bind(("127.0.0.1", 0))
+        return probe.getsockname()[1]
+
+
 def in_threads(*works):
     """All of them at a time, to their ends. What one raises is a fault."""
     def guarded(work):
@@ -239,16 +246,20 @@ def head_of(name, length, more=""):
             f"Content-Type: application/x-protobuf\r\nContent-Length: {length}\r\n\r\n").encode()
 
 
-def listening_port(pid):
-    """Where a process listens, as the system tells; none while it doesn't."""
-    mine = set()
+def listening_ports(pid):
+    """Where a process listens, as the system tells, in the order in which it began to."""
+    mine = {}
     for file in Path(f"/proc/{pid}/fd").iterdir():
-        try:
-            mine.add(os.readlink(file))
-        except OSError:
-            pass
+        with suppress(OSError):
+            mine[os.readlink(file)] = int(file.name)
+    found = []
     for line in Path(f"/proc/{pid}/net/tcp").read_text().splitlines()[1:]:
         words = line.split()
         if words[3] == "0A" and f"socket:[{words[9]}]" in mine:
-            return int(words[1].rpartition(":")[2], 16)
-    return None
+            found.append((mine[f"socket:[{words[9]}]"], int(words[1].rpartition(":")[2], 16)))
+    return [port for _, port in sorted(found)]
+
+
+def listening_port(pid):
+    """The first of them; none while it doesn't listen."""
+    return next(iter(listening_ports(pid)), None)

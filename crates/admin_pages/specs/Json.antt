@@ -1,12 +1,8 @@
 -- Figures as JSON (RFC 8259).
 use Rattle.std.specs.Prelude.{ℕ, ◌==◌, ◌+◌, ◌/◌, ◌%◌, nat_lt, List, [], ◌∷◌, ◌++◌, flat_map, Option, Some, None, if◌then◌else◌, codes, decimal}
-use Rattle.admin_pages.specs.Counter.{all_counters, value_of, word_of}
 use Rattle.admin_pages.specs.Figures.{TenantData}
-use Rattle.admin_pages.specs.Gauge.{all_gauges, level_of}
-use Rattle.admin_pages.specs.Gauge as gauges
-use Rattle.admin_pages.specs.declared.counter.SpanCounter.{SpanCounter}
-use Rattle.admin_pages.specs.declared.figures.TenantUsage.{TenantUsage}
-use Rattle.admin_pages.specs.declared.gauge.TenantGauge.{TenantGauge}
+use Rattle.admin_pages.specs.TenantMetric.{all_counters, all_others, value_of, word_of}
+use Rattle.admin_pages.specs.declared.tenant_metric.TenantMetric.{TenantMetric}
 
 -- a hexadecimal digit, in lower case
 abbrev pub hex_digit : ℕ → ℕ
@@ -25,45 +21,34 @@ string_byte byte =
 abbrev pub string_text : List ℕ → List ℕ
 string_text text = codes "\"" ++ flat_map string_byte text ++ codes "\""
 
--- a counter of a tenant, a member of an object behind another one
-unfoldable pub counter_text : TenantData → SpanCounter → List ℕ
-counter_text tenant counter =
-    codes ",\"" ++ word_of counter ++ codes "\":" ++ decimal (value_of counter tenant.ledger)
+-- a value, or that there is none
+abbrev pub value_text : Option ℕ → List ℕ
+value_text (Some value) = decimal value
+value_text None = codes "null"
 
--- these counters
-unfoldable pub counters_text : TenantData → List SpanCounter → List ℕ
-counters_text tenant [] = []
-counters_text tenant (counter ∷ counters) = counter_text tenant counter ++ counters_text tenant counters
+-- a number that is told of a tenant, a member of an object behind another one
+unfoldable pub member_text : TenantData → TenantMetric → List ℕ
+member_text tenant metric = codes ",\"" ++ word_of metric ++ codes "\":" ++ value_text (value_of metric tenant)
 
--- a gauge of a tenant, a member of an object behind another one
-unfoldable pub level_text : TenantUsage → TenantGauge → List ℕ
-level_text usage gauge = codes ",\"" ++ gauges.word_of gauge ++ codes "\":" ++ decimal (level_of gauge usage)
-
--- these gauges
-unfoldable pub levels_text : TenantUsage → List TenantGauge → List ℕ
-levels_text usage [] = []
-levels_text usage (gauge ∷ rest) = level_text usage gauge ++ levels_text usage rest
-
--- a moment in milliseconds, or that there is none
-abbrev pub moment_text : Option ℕ → List ℕ
-moment_text (Some moment) = decimal moment
-moment_text None = codes "null"
+-- such members
+unfoldable pub members_text : TenantData → List TenantMetric → List ℕ
+members_text tenant [] = []
+members_text tenant (metric ∷ metrics) = member_text tenant metric ++ members_text tenant metrics
 
 -- the front of a tenant's object: its name, and its counters under the words of a report
 unfoldable pub counted_text : TenantData → List ℕ
-counted_text tenant = codes "{\"tenant\":" ++ string_text tenant.name ++ counters_text tenant all_counters
+counted_text tenant = codes "{\"tenant\":" ++ string_text tenant.name ++ members_text tenant all_counters
 
--- a tenant's figures, without the end of their object: behind that front how full it is, and when something of it is
--- due next, in milliseconds since the start
+-- a tenant's figures, without the end of their object: behind that front all others
 unfoldable pub figures_text : TenantData → List ℕ
-figures_text tenant =
-    counted_text tenant ++ levels_text tenant.usage all_gauges ++ codes ",\"ready_at_ms\":" ++ moment_text tenant.ready
+figures_text tenant = counted_text tenant ++ members_text tenant all_others
 
 -- a tenant's figures, as an object
 unfoldable pub tenant_text : TenantData → List ℕ
 tenant_text tenant = figures_text tenant ++ codes "}"
 
--- the last counters of a tenant that has gone, as an object: nothing of it is there that could be full or due
+-- the last counters of a tenant that has gone, as an object: nothing of it is there that could be full, due or
+-- answered
 unfoldable pub gone_text : TenantData → List ℕ
 gone_text tenant = counted_text tenant ++ codes "}"
 

@@ -1,6 +1,4 @@
-pub mod Counter
 pub mod Figures
-pub mod Gauge
 pub mod Json
 pub mod Law
 pub mod Metrics
@@ -9,3 +7,4 @@ pub mod Route
 pub mod Service
 pub mod Settings
 pub mod Status
+pub mod TenantMetric

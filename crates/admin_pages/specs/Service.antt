@@ -4,8 +4,8 @@
 use Rattle.std.specs.Prelude.{ℕ, List, [], ◌∷◌, ◌++◌, Option, Some, None, if◌then◌else◌, codes}
 use Rattle.admin_pages.specs.Metrics.{measure_text, measures_text}
 use Rattle.admin_pages.specs.Status.{counts_by_status}
-use Rattle.admin_pages.specs.declared.counter.MetricKind.{MetricKind}
-use Rattle.admin_pages.specs.declared.counter.MetricKind.TheVariants.{Counter, Gauge}
+use Rattle.admin_pages.specs.declared.tenant_metric.MetricKind.{MetricKind}
+use Rattle.admin_pages.specs.declared.tenant_metric.MetricKind.TheVariants.{Counter, Gauge}
 use Rattle.admin_pages.specs.declared.service.Measure.{Measure}
 use Rattle.admin_pages.specs.declared.service.ServiceFigures.{ServiceFigures}
 use Rattle.admin_pages.specs.declared.service.StatusCounts.{StatusCounts}

@@ -36,7 +36,17 @@ impl TenantUsage {
     }
 }
 
-/// A tenant's name, its counters in the order of a report's line, how full it is, and when something of it is due.
+/// What a back end answered last.
+#[derive(Clone, Copy, Debug, PartialEq, Eq)]
+pub struct LastAnswer {
+    /// Its HTTP status. 0 where no whole answer came: there was no connection, or it ended early.
+    pub status: u16,
+    /// When the answer came, or it was clear that none does, in milliseconds since the start of the service.
+    pub moment: u64,
+}
+
+/// A tenant's name, its counters in the order of a report's line, how full it is, when something of it is due, and what
+/// its back end answered.
 #[derive(Debug, Drop)]
 pub struct TenantFigures {
     pub name: String,
@@ -45,4 +55,6 @@ pub struct TenantFigures {
     /// In milliseconds since the start of the service: then something of the tenant's is due next, or was and hasn't
     /// been done yet. None where nothing of it waits.
     pub ready: Option<u64>,
+    /// None where it has answered nothing yet, and no attempt has failed.
+    pub back_end: Option<LastAnswer>,
 }

@@ -2,11 +2,10 @@
 
 ghost use Rattle.std.specs.Prelude.{◌≡◌, ◌++◌, ◌<◌, map, flat_map, OnOk};
 ghost use Rattle.admin_pages.specs.Figures.{tenant_of};
-ghost use Rattle.admin_pages.specs.Json.{hex_digit, string_byte, string_text, counter_text, counters_text, level_text, levels_text, moment_text, counted_text, figures_text, tenant_text, gone_text, further_text, array_text, tenants_text};
+ghost use Rattle.admin_pages.specs.Json.{hex_digit, string_byte, string_text, value_text, member_text, members_text, counted_text, figures_text, tenant_text, gone_text, further_text, array_text, tenants_text};
 
-use crate::counter::SpanCounter;
-use crate::figures::{TenantFigures, TenantUsage};
-use crate::gauge::TenantGauge;
+use crate::figures::TenantFigures;
+use crate::tenant_metric::TenantMetric;
 use std::alloc::{AllocError, Global};
 
 /// Appends an object with all tenants.
@@ -46,12 +45,10 @@ pub(crate) fn put_figures(
     ensures { OnOk result (out.new.items ≡ out.old.items ++ figures_text (tenant_of tenant.now)) }
 {
     put_counted(alloc, out, tenant)?;
-    put_levels(alloc, out, &tenant.usage, &TenantGauge::all())?;
-    out.extend_from_slice(b",\"ready_at_ms\":")?;
-    put_moment(alloc, out, tenant.ready)
+    put_members(alloc, out, tenant, &TenantMetric::others())
 }
 
-/// Appends the object of a tenant that has gone, with its last counters. How full it was and what was due isn't told.
+/// Appends the object of a tenant that has gone, with its last counters. Nothing else of it is told.
 #[tactic(auto, using(crate::proofs::Joined::more), unfolding(crate::specs::Json::gone_text))]
 pub fn put_gone(alloc: Global, out: &mut Vec<u8>, tenant: &TenantFigures) -> Result<(), AllocError>
     ensures { OnOk result (out.new.items ≡ out.old.items ++ gone_text (tenant_of tenant.now)) }
@@ -66,50 +63,52 @@ fn put_counted(alloc: Global, out: &mut Vec<u8>, tenant: &TenantFigures) -> Resu
 {
     out.extend_from_slice(b"{\"tenant\":")?;
     put_string(out, tenant.name.as_str())?;
-    put_counters(alloc, out, tenant, &SpanCounter::all())
+    put_members(alloc, out, tenant, &TenantMetric::counters())
 }
 
-/// Appends these gauges of a tenant that is so full, as members.
-#[tactic(auto, unfolding(crate::specs::Json::levels_text))]
-fn put_levels(
+/// Appends these numbers of a tenant as members.
+#[tactic(auto, unfolding(crate::specs::Json::members_text))]
+fn put_members(
     alloc: Global,
     out: &mut Vec<u8>,
-    usage: &TenantUsage,
-    mut gauges: &[TenantGauge],
+    tenant: &TenantFigures,
+    mut metrics: &[TenantMetric],
 ) -> Result<(), AllocError>
     ensures { OnOk result (out.new.items
-        ≡ out.old.items ++ levels_text usage.now gauges.entry.now) }
+        ≡ out.old.items ++ members_text (tenant_of tenant.now) metrics.entry.now) }
 {
-    while let [first, rest @ ..] = gauges {
-        put_level(alloc, out, usage, *first)?;
-        gauges = rest;
+    while let [first, rest @ ..] = metrics {
+        put_member(alloc, out, tenant, *first)?;
+        metrics = rest;
     }
     Ok(())
 }
 
-/// Appends a gauge of a tenant that is so full, as a member.
-#[tactic(auto, unfolding(crate::specs::Json::level_text))]
-fn put_level(
+/// Appends a number of a tenant as a member.
+#[tactic(auto, using(crate::proofs::Joined::more), unfolding(crate::specs::Json::member_text))]
+fn put_member(
     alloc: Global,
     out: &mut Vec<u8>,
-    usage: &TenantUsage,
-    gauge: TenantGauge,
+    tenant: &TenantFigures,
+    metric: TenantMetric,
 ) -> Result<(), AllocError>
-    ensures { OnOk result (out.new.items ≡ out.old.items ++ level_text usage.now gauge) }
+    ensures { OnOk result (out.new.items ≡ out.old.items ++ member_text (tenant_of tenant.now)
+        metric) }
 {
-    let (word, value) = (gauge.word(), gauge.value(usage));
-    let member = format!(in alloc; ",\"{word}\":{value}")?;
-    out.extend_from_slice(member.as_bytes())
+    out.extend_from_slice(b",\"")?;
+    out.extend_from_slice(metric.word().as_bytes())?;
+    out.extend_from_slice(b"\":")?;
+    put_value(alloc, out, metric.value(tenant))
 }
 
-/// Appends a moment, or that there is none.
-fn put_moment(alloc: Global, out: &mut Vec<u8>, moment: Option<u64>) -> Result<(), AllocError>
-    ensures { OnOk result (out.new.items ≡ out.old.items ++ moment_text moment) }
+/// Appends a value, or that there is none.
+fn put_value(alloc: Global, out: &mut Vec<u8>, value: Option<u64>) -> Result<(), AllocError>
+    ensures { OnOk result (out.new.items ≡ out.old.items ++ value_text value) }
 {
-    match moment {
-        Some(moment) => {
-            let moment = format!(in alloc; "{moment}")?;
-            out.extend_from_slice(moment.as_bytes())
+    match value {
+        Some(value) => {
+            let value = format!(in alloc; "{value}")?;
+            out.extend_from_slice(value.as_bytes())
         }
         None => out.extend_from_slice(b"null"),
     }
@@ -145,40 +144,6 @@ fn put_further(
         tenants = rest;
     }
     Ok(())
-}
-
-/// Appends these counters of a tenant as members.
-#[tactic(auto, unfolding(crate::specs::Json::counters_text))]
-fn put_counters(
-    alloc: Global,
-    out: &mut Vec<u8>,
-    tenant: &TenantFigures,
-    mut counters: &[SpanCounter],
-) -> Result<(), AllocError>
-    ensures { OnOk result (out.new.items
-        ≡ out.old.items ++ counters_text (tenant_of tenant.now) counters.entry.now) }
-{
-    while let [first, rest @ ..] = counters {
-        put_counter(alloc, out, tenant, *first)?;
-        counters = rest;
-    }
-    Ok(())
-}
-
-/// Appends a counter of a tenant as a member.
-#[tactic(auto, unfolding(crate::specs::Json::counter_text))]
-fn put_counter(
-    alloc: Global,
-    out: &mut Vec<u8>,
-    tenant: &TenantFigures,
-    counter: SpanCounter,
-) -> Result<(), AllocError>
-    ensures { OnOk result (out.new.items ≡ out.old.items ++ counter_text (tenant_of tenant.now)
-        counter) }
-{
-    let (word, value) = (counter.word(), counter.value(&tenant.counters));
-    let member = format!(in alloc; ",\"{word}\":{value}")?;
-    out.extend_from_slice(member.as_bytes())
 }
 
 /// Appends a string.

@@ -2,18 +2,14 @@
 
 ghost use Rattle.std.specs.Prelude.{◌≡◌, ◌++◌, map, decimal, string_bytes, IfOk, OnOk};
 ghost use Rattle.admin_pages.specs.Figures.{tenant_of};
-ghost use Rattle.admin_pages.specs.Metrics.{label_byte, label_text, head_text, sample_text, labelled_text, measure_text, sample_of, labels_text, measures_text, samples_text, family_text, families_text, levels_text, gauge_text, gauges_text, seconds_text, ready_metric, ready_sample, ready_samples, ready_text, tenants_text};
+ghost use Rattle.admin_pages.specs.Metrics.{label_byte, label_text, head_text, sample_text, labelled_text, measure_text, sample_of, labels_text, measures_text, seconds_text, amount_text, tenant_sample, samples_text, family_text, families_text, tenants_text};
 
-use crate::counter::{MetricKind, SpanCounter};
 use crate::figures::TenantFigures;
-use crate::gauge::TenantGauge;
+use crate::tenant_metric::{MetricKind, TenantMetric};
 use std::alloc::{AllocError, Global};
 
-/// The metric of when something of a tenant is due.
-const READY: &str = "nimchaes_ready_uptime_seconds";
-
-/// Appends the families of all counters and behind them of all gauges, with a sample for each tenant under its name,
-/// and that of when something of the tenants is due, with a sample for each of which something waits.
+/// Appends a family for each number that is told of a tenant, its counters first, with a sample for each tenant under
+/// its name. A tenant for whom there is no such number has none.
 #[tactic(auto, using(crate::proofs::Joined::more))]
 pub fn put_tenant_metrics(
     alloc: Global,
@@ -23,9 +19,8 @@ pub fn put_tenant_metrics(
     ensures { OnOk result (out.new.items ≡ out.old.items ++ tenants_text
         (map tenant_of tenants.now)) }
 {
-    put_families(alloc, out, tenants, &SpanCounter::all())?;
-    put_gauges(alloc, out, tenants, &TenantGauge::all())?;
-    put_ready(alloc, out, tenants)
+    put_families(alloc, out, tenants, &TenantMetric::counters())?;
+    put_families(alloc, out, tenants, &TenantMetric::others())
 }
 
 /// Appends a family of one sample without a label. Its help has no backslash and no line feed.
@@ -90,62 +85,85 @@ fn put_labels(
     Ok(())
 }
 
-/// Appends the families of these counters.
+/// Appends the families of these metrics.
 fn put_families(
     alloc: Global,
     out: &mut Vec<u8>,
     tenants: &[TenantFigures],
-    mut counters: &[SpanCounter],
+    mut metrics: &[TenantMetric],
 ) -> Result<(), AllocError>
     ensures { OnOk result (out.new.items
-        ≡ out.old.items ++ families_text (map tenant_of tenants.now) counters.entry.now) }
+        ≡ out.old.items ++ families_text (map tenant_of tenants.now) metrics.entry.now) }
 {
-    while let [first, rest @ ..] = counters {
+    while let [first, rest @ ..] = metrics {
         put_family(alloc, out, tenants, *first)?;
-        counters = rest;
+        metrics = rest;
     }
     Ok(())
 }
 
-/// Appends the family of a counter.
+/// Appends the family of a metric.
 #[tactic(auto, using(crate::proofs::Joined::more))]
 fn put_family(
     alloc: Global,
     out: &mut Vec<u8>,
     tenants: &[TenantFigures],
-    counter: SpanCounter,
+    metric: TenantMetric,
 ) -> Result<(), AllocError>
     ensures { OnOk result (out.new.items ≡ out.old.items ++ family_text (map tenant_of tenants.now)
-        counter) }
+        metric) }
 {
-    let (name, kind) = (counter.metric(), counter.kind());
-    put_head(alloc, out, name, counter.help(), kind)?;
-    put_samples(alloc, out, tenants, counter)
+    let (name, kind) = (metric.metric(), metric.kind());
+    put_head(alloc, out, name, metric.help(), kind)?;
+    put_samples(alloc, out, tenants, metric)
 }
 
-/// Appends a counter's sample of each tenant.
+/// Appends a metric's sample of each tenant.
 fn put_samples(
     alloc: Global,
     out: &mut Vec<u8>,
     mut tenants: &[TenantFigures],
-    counter: SpanCounter,
+    metric: TenantMetric,
 ) -> Result<(), AllocError>
     ensures { OnOk result (out.new.items
-        ≡ out.old.items ++ samples_text counter (map tenant_of tenants.entry.now)) }
+        ≡ out.old.items ++ samples_text metric (map tenant_of tenants.entry.now)) }
 {
     while let [first, rest @ ..] = tenants {
-        let value = counter.value(&first.counters);
-        put_figure(
-            alloc,
-            out,
-            counter.metric(),
-            "tenant",
-            first.name.as_str(),
-            value,
-        )?;
+        put_sample(alloc, out, metric, first.name.as_str(), metric.value(first))?;
         tenants = rest;
     }
     Ok(())
+}
+
+/// Appends a metric's sample of the tenant of this name, if it has a value.
+fn put_sample(
+    alloc: Global,
+    out: &mut Vec<u8>,
+    metric: TenantMetric,
+    tenant: &str,
+    value: Option<u64>,
+) -> Result<(), AllocError>
+    ensures { OnOk result (out.new.items
+        ≡ out.old.items ++ tenant_sample metric tenant.now value) }
+{
+    match value {
+        Some(value) => {
+            let amount = amount_of(alloc, metric, value)?;
+            put_labelled(out, metric.metric(), "tenant", tenant, amount.as_bytes())
+        }
+        None => Ok(()),
+    }
+}
+
+/// What a metric is, a moment in seconds.
+fn amount_of(alloc: Global, metric: TenantMetric, value: u64) -> Result<String, AllocError>
+    ensures { IfOk result (λ text. string_bytes text ≡ amount_text metric value) }
+{
+    if metric.is_moment() {
+        seconds_of(alloc, value)
+    } else {
+        format!(in alloc; "{value}")
+    }
 }
 
 /// Appends what a family is.
@@ -161,108 +179,6 @@ fn put_head(
     let kind = kind.word();
     let head = format!(in alloc; "# HELP {name} {help}\n# TYPE {name} {kind}\n")?;
     out.extend_from_slice(head.as_bytes())
-}
-
-/// Appends the families of these gauges.
-fn put_gauges(
-    alloc: Global,
-    out: &mut Vec<u8>,
-    tenants: &[TenantFigures],
-    mut gauges: &[TenantGauge],
-) -> Result<(), AllocError>
-    ensures { OnOk result (out.new.items
-        ≡ out.old.items ++ gauges_text (map tenant_of tenants.now) gauges.entry.now) }
-{
-    while let [first, rest @ ..] = gauges {
-        put_gauge(alloc, out, tenants, *first)?;
-        gauges = rest;
-    }
-    Ok(())
-}
-
-/// Appends the family of a gauge.
-#[tactic(auto, using(crate::proofs::Joined::more))]
-fn put_gauge(
-    alloc: Global,
-    out: &mut Vec<u8>,
-    tenants: &[TenantFigures],
-    gauge: TenantGauge,
-) -> Result<(), AllocError>
-    ensures { OnOk result (out.new.items ≡ out.old.items ++ gauge_text (map tenant_of tenants.now)
-        gauge) }
-{
-    put_head(alloc, out, gauge.metric(), gauge.help(), MetricKind::Gauge)?;
-    put_levels(alloc, out, tenants, gauge)
-}
-
-/// Appends a gauge's sample of each tenant.
-fn put_levels(
-    alloc: Global,
-    out: &mut Vec<u8>,
-    mut tenants: &[TenantFigures],
-    gauge: TenantGauge,
-) -> Result<(), AllocError>
-    ensures { OnOk result (out.new.items
-        ≡ out.old.items ++ levels_text gauge (map tenant_of tenants.entry.now)) }
-{
-    while let [first, rest @ ..] = tenants {
-        let value = gauge.value(&first.usage);
-        put_figure(
-            alloc,
-            out,
-            gauge.metric(),
-            "tenant",
-            first.name.as_str(),
-            value,
-        )?;
-        tenants = rest;
-    }
-    Ok(())
-}
-
-/// Appends the family of when something of these tenants is due.
-#[tactic(auto, using(crate::proofs::Joined::more))]
-fn put_ready(alloc: Global, out: &mut Vec<u8>, tenants: &[TenantFigures]) -> Result<(), AllocError>
-    ensures { OnOk result (out.new.items ≡ out.old.items ++ ready_text
-        (map tenant_of tenants.now)) }
-{
-    let help = "Seconds after the start at which something of the tenant is due next";
-    put_head(alloc, out, READY, help, MetricKind::Gauge)?;
-    put_moments(alloc, out, tenants)
-}
-
-/// Appends a sample of each tenant of which something waits.
-fn put_moments(
-    alloc: Global,
-    out: &mut Vec<u8>,
-    mut tenants: &[TenantFigures],
-) -> Result<(), AllocError>
-    ensures { OnOk result (out.new.items
-        ≡ out.old.items ++ ready_samples (map tenant_of tenants.entry.now)) }
-{
-    while let [first, rest @ ..] = tenants {
-        put_moment(alloc, out, first.name.as_str(), first.ready)?;
-        tenants = rest;
-    }
-    Ok(())
-}
-
-/// Appends the sample of when something of the tenant of this name is due, if anything waits.
-fn put_moment(
-    alloc: Global,
-    out: &mut Vec<u8>,
-    tenant: &str,
-    ready: Option<u64>,
-) -> Result<(), AllocError>
-    ensures { OnOk result (out.new.items ≡ out.old.items ++ ready_sample tenant.now ready) }
-{
-    match ready {
-        Some(moment) => {
-            let seconds = seconds_of(alloc, moment)?;
-            put_labelled(out, READY, "tenant", tenant, seconds.as_bytes())
-        }
-        None => Ok(()),
-    }
 }
 
 /// A moment of this many milliseconds, in seconds.

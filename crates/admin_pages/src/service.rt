@@ -5,9 +5,9 @@ ghost use Rattle.admin_pages.specs.Metrics.{sample_of};
 ghost use Rattle.admin_pages.specs.Service.{measure_view, gauge, counter, families_of, standing_of, sending_of, receiving_of, memory_text, answers_of, build_text, requests_text, answers_text, service_text};
 ghost use Rattle.admin_pages.specs.Status.{counts_by_status};
 
-use crate::counter::MetricKind;
 use crate::metrics::{Sample, put_measure, put_measures};
 use crate::status::STATUS_COUNTS;
+use crate::tenant_metric::MetricKind;
 use std::alloc::{AllocError, Global};
 
 /// How many there were of each class of HTTP's statuses.

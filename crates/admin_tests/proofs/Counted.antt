@@ -4,6 +4,7 @@ use Rattle.admin_pages.specs.Status.{place_among}
 use Rattle.http_edge.specs.Message.{Request, Response, expects}
 use Rattle.http_edge.specs.Reply.{continue_text, refusal_text}
 use Rattle.http_edge.specs.Talk.{Refuses, at_head, many_lines, long_chunks, bad_chunks, RefusesHead, bad_head, many_fields, long_head, bad_framing, long_length}
+use Rattle.http_edge.specs.declared.message.RefusalForm.{RefusalForm}
 use Rattle.otlp_front.specs.Route.{Names, Route, post, refuse, route_of, route_to, is_post, tenant_in, no_such_path, method_not_allowed, unknown_tenant, unsupported_type, unsupported_encoding}
 use Rattle.otlp_front.specs.Fields.{has_protobuf, are_plain}
 use Rattle.otlp_front.specs.Target.{is_for_traces}
@@ -16,15 +17,16 @@ place_own [] a b small same = absurd (omega (arith, small))
 place_own (s ∷ ss) a b small same = grind (arith, place_own ss a b)
 
 -- a refusal behind nothing
-at_once : (bodiless : Bool) (status : ℕ) → HasCount status → IsRefusal (refusal_text bodiless status)
+at_once : {form : RefusalForm} (bodiless : Bool) (status : ℕ) → HasCount status
+    → IsRefusal form (refusal_text form bodiless status)
 at_once bodiless status counted = record { front = []; bodiless = bodiless; status = status; at_front = inl refl; text_is = refl; counted = counted }
 
-of_head : (bytes text : List ℕ) → RefusesHead bytes text → IsRefusal text
-of_head bytes _ (bad_head _) = at_once false 400 (omega arith)
-of_head bytes _ (many_fields _ _) = at_once false 431 (omega arith)
-of_head bytes _ (long_head _ _) = at_once false 431 (omega arith)
-of_head bytes _ (bad_framing h after _ _) = at_once _ 400 (omega arith)
-of_head bytes _ (long_length h after n _ _ _) = at_once _ 413 (omega arith)
+of_head : (bytes : List ℕ) (bodiless : Bool) (status : ℕ) → RefusesHead bytes bodiless status → HasCount status
+of_head bytes _ _ (bad_head _) = omega arith
+of_head bytes _ _ (many_fields _ _) = omega arith
+of_head bytes _ _ (long_head _ _) = omega arith
+of_head bytes _ _ (bad_framing h after _ _) = omega arith
+of_head bytes _ _ (long_length h after n _ _ _) = omega arith
 
 -- what is written before a body is read
 either : (b : Bool) → (cond b continue_text [] ≡ []) ⊎ (cond b continue_text [] ≡ continue_text)
@@ -32,14 +34,15 @@ either true = inr refl
 either false = inl refl
 
 -- a refusal behind that
-behind : (b bodiless : Bool) (status : ℕ) → HasCount status → IsRefusal (cond b continue_text [] ++ refusal_text bodiless status)
+behind : {form : RefusalForm} (b bodiless : Bool) (status : ℕ) → HasCount status
+    → IsRefusal form (cond b continue_text [] ++ refusal_text form bodiless status)
 behind b bodiless status counted = record { front = cond b continue_text []; bodiless = bodiless; status = status; at_front = either b; text_is = refl; counted = counted }
 
-pub of_bad : (bytes text : List ℕ) → Refuses bytes text → IsRefusal text
-of_bad bytes text (at_head _ e) = of_head bytes text e
-of_bad bytes _ (many_lines _ _ _) = at_once false 431 (omega arith)
-of_bad bytes _ (long_chunks h after _ _ _) = behind (expects h) _ 413 (omega arith)
-of_bad bytes _ (bad_chunks h after _ _ _) = behind (expects h) _ 400 (omega arith)
+pub of_bad : (form : RefusalForm) (bytes text : List ℕ) → Refuses form bytes text → IsRefusal form text
+of_bad form bytes _ (at_head bodiless status e) = at_once bodiless status (of_head bytes bodiless status e)
+of_bad form bytes _ (many_lines _ _ _) = at_once false 431 (omega arith)
+of_bad form bytes _ (long_chunks h after _ _ _) = behind (expects h) _ 413 (omega arith)
+of_bad form bytes _ (bad_chunks h after _ _ _) = behind (expects h) _ 400 (omega arith)
 
 -- the status of a refusal
 abbrev status_of : Route → ℕ

@@ -1,6 +1,6 @@
 //! Tenants' figures for tests.
 
-use admin_pages::{TenantFigures, TenantUsage};
+use admin_pages::{LastAnswer, TenantFigures, TenantUsage};
 use std::alloc::{AllocError, Global};
 
 /// A tenant of 77 spans in places of 2 to 12, beside which 13 and 14 were left out.
@@ -13,6 +13,7 @@ pub fn tenant(alloc: Global, name: &str, counters: [u64; 14]) -> Result<TenantFi
         counters,
         usage: TenantUsage::none(),
         ready: None,
+        back_end: None,
     })
 }
 
@@ -34,6 +35,19 @@ pub fn with_usage(
 ) -> Result<TenantFigures, AllocError> {
     Ok(TenantFigures {
         usage,
+        ..tenant(alloc, name, [0; 14])?
+    })
+}
+
+/// A tenant of this name without spans, whose back end answered this last, at this moment.
+pub fn answered(
+    alloc: Global,
+    name: &str,
+    status: u16,
+    moment: u64,
+) -> Result<TenantFigures, AllocError> {
+    Ok(TenantFigures {
+        back_end: Some(LastAnswer { status, moment }),
         ..tenant(alloc, name, [0; 14])?
     })
 }

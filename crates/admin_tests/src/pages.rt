@@ -1,6 +1,6 @@
 //! Figures as a scraper and a page read them.
 
-use crate::figures::{EACH, HALF_FULL, due, tenant, with_usage};
+use crate::figures::{EACH, HALF_FULL, answered, due, tenant, with_usage};
 use admin_pages::{
     MetricKind, TenantUsage, put_gone, put_measure, put_string, put_tenant, put_tenant_metrics,
     put_tenants,
@@ -28,12 +28,16 @@ nimchaes_undecided_spans{tenant=\"a\"} 2\n"
 otelcol_exporter_queue_capacity{tenant=\"a\"} 0\n\
 otelcol_exporter_queue_capacity{tenant=\"b\\\\c\\\"d\\ne\"} 0\n\
 # HELP nimchaes_ready_uptime_seconds Seconds after the start at which something of the tenant is due next\n\
-# TYPE nimchaes_ready_uptime_seconds gauge\n"
+# TYPE nimchaes_ready_uptime_seconds gauge\n\
+# HELP nimchaes_back_end_last_status Status that the back end answered last or 0 if no whole answer came\n\
+# TYPE nimchaes_back_end_last_status gauge\n\
+# HELP nimchaes_back_end_last_status_uptime_seconds Seconds after the start at which the back end answered last\n\
+# TYPE nimchaes_back_end_last_status_uptime_seconds gauge\n"
         .as_slice();
     assert!(rt; text.ends_with(ends));
     assert_eq!(rt;
         text.iter().filter(|byte| **byte == b'\n').count(),
-        20 * 4 + 2
+        20 * 4 + 3 * 2
     );
     Ok(())
 }
@@ -68,7 +72,11 @@ otelcol_exporter_queue_size{tenant=\"b\\\"\"} 0\n\
 otelcol_exporter_queue_capacity{tenant=\"a\"} 3\n\
 otelcol_exporter_queue_capacity{tenant=\"b\\\"\"} 0\n\
 # HELP nimchaes_ready_uptime_seconds Seconds after the start at which something of the tenant is due next\n\
-# TYPE nimchaes_ready_uptime_seconds gauge\n";
+# TYPE nimchaes_ready_uptime_seconds gauge\n\
+# HELP nimchaes_back_end_last_status Status that the back end answered last or 0 if no whole answer came\n\
+# TYPE nimchaes_back_end_last_status gauge\n\
+# HELP nimchaes_back_end_last_status_uptime_seconds Seconds after the start at which the back end answered last\n\
+# TYPE nimchaes_back_end_last_status_uptime_seconds gauge\n";
 
 #[test]
 fn each_tenant_has_each_gauge(rt: HostRuntime) -> Result<(), Fail> {
@@ -88,7 +96,7 @@ fn each_tenant_has_each_gauge(rt: HostRuntime) -> Result<(), Fail> {
     put_tenant(alloc, &mut text, &with_usage(alloc, "a", HALF_FULL)?)?;
     let ends =
         b",\"over_budget\":0,\"rows\":5,\"undecided_rows\":4,\"rows_limit\":50000,\"spans_limit\":1000,\
-\"queued_batches\":2,\"queued_batches_limit\":3,\"ready_at_ms\":null}"
+\"queued_batches\":2,\"queued_batches_limit\":3,\"ready_at_ms\":null,\"back_end_status\":null,\"back_end_status_at_ms\":null}"
             .as_slice();
     assert!(rt; text.ends_with(ends));
     Ok(())
@@ -116,7 +124,41 @@ nimchaes_ready_uptime_seconds{tenant=\"c\"} 0.010\n\
 nimchaes_ready_uptime_seconds{tenant=\"d\"} 0.999\n\
 nimchaes_ready_uptime_seconds{tenant=\"e\"} 1.000\n\
 nimchaes_ready_uptime_seconds{tenant=\"f\\\"\"} 3600.120\n\
-nimchaes_ready_uptime_seconds{tenant=\"g\"} 18446744073709551.615\n"
+nimchaes_ready_uptime_seconds{tenant=\"g\"} 18446744073709551.615\n\
+# HELP nimchaes_back_end_last_status Status that the back end answered last or 0 if no whole answer came\n\
+# TYPE nimchaes_back_end_last_status gauge\n\
+# HELP nimchaes_back_end_last_status_uptime_seconds Seconds after the start at which the back end answered last\n\
+# TYPE nimchaes_back_end_last_status_uptime_seconds gauge\n"
+        .as_slice();
+    assert!(rt; text.ends_with(ends));
+    Ok(())
+}
+
+#[test]
+fn who_was_answered_has_the_last_status(rt: HostRuntime) -> Result<(), Fail> {
+    let alloc = rt.alloc();
+    let tenants = [
+        answered(alloc, "a", 200, 0)?,
+        tenant(alloc, "nothing", EACH)?,
+        answered(alloc, "b\"", 503, 61_005)?,
+        answered(alloc, "none", 0, u64::MAX)?,
+        answered(alloc, "any", u16::MAX, 7)?,
+    ];
+    let mut text = Vec::new(alloc);
+    put_tenant_metrics(alloc, &mut text, &tenants)?;
+    let ends = b"# TYPE nimchaes_ready_uptime_seconds gauge\n\
+# HELP nimchaes_back_end_last_status Status that the back end answered last or 0 if no whole answer came\n\
+# TYPE nimchaes_back_end_last_status gauge\n\
+nimchaes_back_end_last_status{tenant=\"a\"} 200\n\
+nimchaes_back_end_last_status{tenant=\"b\\\"\"} 503\n\
+nimchaes_back_end_last_status{tenant=\"none\"} 0\n\
+nimchaes_back_end_last_status{tenant=\"any\"} 65535\n\
+# HELP nimchaes_back_end_last_status_uptime_seconds Seconds after the start at which the back end answered last\n\
+# TYPE nimchaes_back_end_last_status_uptime_seconds gauge\n\
+nimchaes_back_end_last_status_uptime_seconds{tenant=\"a\"} 0.000\n\
+nimchaes_back_end_last_status_uptime_seconds{tenant=\"b\\\"\"} 61.005\n\
+nimchaes_back_end_last_status_uptime_seconds{tenant=\"none\"} 18446744073709551.615\n\
+nimchaes_back_end_last_status_uptime_seconds{tenant=\"any\"} 0.007\n"
         .as_slice();
     assert!(rt; text.ends_with(ends));
     Ok(())
@@ -151,7 +193,7 @@ const EACH_COUNTERS: &str =
 /// What stands behind the counters of a tenant that isn't full and waits for nothing.
 const EMPTY_MEMBERS: &str =
     ",\"rows\":0,\"undecided_rows\":0,\"rows_limit\":0,\"spans_limit\":0,\"queued_batches\":0,\
-\"queued_batches_limit\":0,\"ready_at_ms\":null}";
+\"queued_batches_limit\":0,\"ready_at_ms\":null,\"back_end_status\":null,\"back_end_status_at_ms\":null}";
 
 #[test]
 fn a_tenant_is_an_object(rt: HostRuntime) -> Result<(), Fail> {
@@ -175,17 +217,49 @@ fn one_that_has_gone_has_its_counters_alone(rt: HostRuntime) -> Result<(), Fail>
 
 #[test]
 fn who_waits_has_a_moment_in_milliseconds(rt: HostRuntime) -> Result<(), Fail> {
-    for (moment, ends) in [
-        (0, ",\"queued_batches_limit\":0,\"ready_at_ms\":0}"),
-        (61_005, ",\"queued_batches_limit\":0,\"ready_at_ms\":61005}"),
-        (
-            u64::MAX,
-            ",\"queued_batches_limit\":0,\"ready_at_ms\":18446744073709551615}",
-        ),
+    for (moment, told) in [
+        (0, "0"),
+        (61_005, "61005"),
+        (u64::MAX, "18446744073709551615"),
     ] {
         let mut text = Vec::new(rt.alloc());
         put_tenant(rt.alloc(), &mut text, &due(rt.alloc(), "a", moment)?)?;
+        let ends = format!(in rt.alloc();
+            ",\"queued_batches_limit\":0,\"ready_at_ms\":{told},\"back_end_status\":null,\"back_end_status_at_ms\":null}}"
+        )?;
         assert!(rt; text.ends_with(ends.as_bytes()));
+    }
+    Ok(())
+}
+
+#[test]
+fn who_was_answered_has_status_and_moment(rt: HostRuntime) -> Result<(), Fail> {
+    for (status, moment, ends) in [
+        (
+            200,
+            0,
+            ",\"back_end_status\":200,\"back_end_status_at_ms\":0}",
+        ),
+        (
+            503,
+            12_345,
+            ",\"back_end_status\":503,\"back_end_status_at_ms\":12345}",
+        ),
+        (
+            0,
+            u64::MAX,
+            ",\"back_end_status\":0,\"back_end_status_at_ms\":18446744073709551615}",
+        ),
+    ] {
+        let alloc = rt.alloc();
+        let figures = answered(alloc, "a", status, moment)?;
+        let mut text = Vec::new(alloc);
+        put_tenant(alloc, &mut text, &figures)?;
+        let wanted = format!(in alloc; ",\"ready_at_ms\":null{ends}")?;
+        assert!(rt; text.ends_with(wanted.as_bytes()));
+        let mut text = Vec::new(alloc);
+        put_gone(alloc, &mut text, &figures)?;
+        assert!(rt; text.ends_with(b",\"over_budget\":0}"));
     }
     Ok(())
 }

@@ -1,10 +1,9 @@
 -- What hits change of the caches.
 use Rattle.std.proofs.Common.{◌≡◌, ℕ, ◌≤◌, Bool, true, false, List, [], ◌∷◌, ◌++◌, take, drop, get_or, ◌+◌, ◌<◌, zero, suc, length, refl, sym, ap, ◌∙◌, subst, Some, None, if◌then◌else◌}
 use Rattle.std.proofs.lemmas.List.{drop_more}
-use Rattle.decision_cache.specs.Recent.{without}
 use Rattle.decision_cache.specs.Ids.{is_same, contains}
 use Rattle.decision_cache.specs.Caches.{BothData, CachesData, cache_of, noted_in, all_noted, shown, found, AreIn, AreWithin, CachesInvariant}
-use Rattle.decision_cache.proofs.Lists.{hits_keep, hits_keep_length, take_few}
+use Rattle.decision_cache.proofs.Lists.{hits_keep, hits_keep_length}
 use Rattle.decision_cache.proofs.Same.{same_laws}
 
 -- an id is in a cache after a hit where it was before
@@ -25,10 +24,6 @@ are_in_noted (hit ∷ hits) sampled id b there within are = (noted_has sampled i
 -- the first hit is noted, and what holds of all goes on
 pub one_noted : (hit : List ℕ × Bool) (hits : List (List ℕ × Bool)) (b : BothData) → AreWithin b → AreIn (hit ∷ hits) b → AreWithin (noted_in hit.1 hit.0 b) × AreIn hits (noted_in hit.1 hit.0 b)
 one_noted hit hits b within are = (noted_within hit.1 hit.0 b are.0 within, are_in_noted hits hit.1 hit.0 b are.0 within are.1)
-
--- the hit that a loop comes to is in its cache
-pub hit_there : (hits : List (List ℕ × Bool)) (i : ℕ) (b : BothData) → i < length hits → AreIn (drop i hits) b → contains (get_or hits i ([], false)).0 (cache_of (get_or hits i ([], false)).1 b) ≡ true
-hit_there hits i b lt are = (subst (λ (h : List (List ℕ × Bool)). AreIn h b) (drop_more hits i ([], false) lt) are).0
 
 -- and once it is noted, those behind it are in theirs, and make of the caches what it made of them with those
 pub next_hit : (hits : List (List ℕ × Bool)) (i : ℕ) (b next : BothData) → i < length hits → AreWithin b → AreIn (drop i hits) b
@@ -100,21 +95,3 @@ finds_other c id sound is_not is =
 pub finds_none : (c : CachesData) (id : List ℕ) → CachesInvariant c → contains id c.kept.sampled ≡ false → contains id c.kept.other ≡ false → None ≡ found id (shown c)
 finds_none c id sound is_not nor =
     sym (found_shown c sound id ∙ λ i. if is_not i then Some true else if nor i then Some false else None)
-
--- where no hit waits the caches are shown as they are kept
-pub shown_none : (hits : List (List ℕ × Bool)) (b : BothData) → hits ≡ [] → all_noted hits b ≡ b
-shown_none hits b none = ap (λ (h : List (List ℕ × Bool)). all_noted h b) none
-
-pub put_shown : (hits : List (List ℕ × Bool)) (b : BothData) (sampled : Bool) (id : List ℕ) → hits ≡ [] → all_noted hits (noted_in sampled id b) ≡ noted_in sampled id (all_noted hits b)
-put_shown hits b sampled id none = shown_none hits (noted_in sampled id b) none ∙ sym (ap (noted_in sampled id) (shown_none hits b none))
-
--- a put leaves the caches sound where no hit waits
-pub put_sound : (c : CachesData) (sampled : Bool) (id : List ℕ) → c.hits ≡ [] → CachesInvariant c → CachesInvariant (record { kept = noted_in sampled id c.kept; hits = c.hits })
-put_sound c sampled id none sound = record {
-  within = within sampled;
-  hits = subst (λ (h : List (List ℕ × Bool)). AreIn h (noted_in sampled id c.kept)) (sym none) tt;
-}
-  where
-    within : (s : Bool) → AreWithin (noted_in s id c.kept)
-    within true = (take_few c.kept.sampled.size (id ∷ without is_same id c.kept.sampled.ids), sound.within.1)
-    within false = (sound.within.0, take_few c.kept.other.size (id ∷ without is_same id c.kept.other.ids))

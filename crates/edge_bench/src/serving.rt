@@ -1,9 +1,12 @@
 //! A connection in memory, and who answers what comes from it.
 ghost use Rattle.std.specs.Prelude.{ℕ};
+ghost use Rattle.http_edge.specs.declared.message.RefusalForm.TheVariants.{Status};
 
 use crate::fault::{NotPosted, of_edge, of_settings};
 use bench_task::BenchFault;
-use http_edge::{Allow, Handler, HttpMessage, MediaType, Reply, connection_buffer, serve};
+use http_edge::{
+    Allow, Handler, HttpMessage, MediaType, RefusalForm, Reply, connection_buffer, serve,
+};
 use http_line::MemoryLine;
 use otlp_front::{Route, route};
 use std::alloc::{AllocError, Global};
@@ -40,7 +43,13 @@ struct Front {
 }
 
 impl Handler for Front {
+    ghost refusals = { Status };
+
     ghost answers = { λ _ _ _ _. Unit {0} };
+
+    fn refusals() -> RefusalForm {
+        RefusalForm::Status
+    }
 
     fn reply_to_head(&self, head: &HttpMessage) -> Option<Reply> {
         match route(&self.settings, head) {

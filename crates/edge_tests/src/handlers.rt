@@ -1,7 +1,8 @@
 //! Who answers in talks.
-ghost use Rattle.std.specs.Prelude.{ℕ};
+ghost use Rattle.std.specs.Prelude.{◌≡◌, ℕ};
+ghost use Rattle.http_edge.specs.declared.message.RefusalForm.TheVariants.{Status, Json};
 
-use http_edge::{Allow, Handler, HttpMessage, MediaType, Reply};
+use http_edge::{Allow, Handler, HttpMessage, MediaType, RefusalForm, Reply};
 use otlp_front::{Route, RouteRefusal, route};
 use std::alloc::{AllocError, Global};
 use std::str;
@@ -13,7 +14,13 @@ use tail_settings::Settings;
 pub struct Echo;
 
 impl Handler for Echo {
+    ghost refusals = { Status };
+
     ghost answers = { λ _ _ _ _. Unit {0} };
+
+    fn refusals() -> RefusalForm {
+        RefusalForm::Status
+    }
 
     fn reply_to_head(&self, _head: &HttpMessage) -> Option<Reply> {
         None
@@ -27,6 +34,28 @@ impl Handler for Echo {
             allow: Allow::Post,
             body,
         }
+    }
+}
+
+/// Answers as `Echo` does, at a port whose refusals are JSON.
+#[derive(Drop)]
+pub struct JsonEcho;
+
+impl Handler for JsonEcho {
+    ghost refusals = { Json };
+
+    ghost answers = { λ _ _ _ _. Unit {0} };
+
+    fn refusals() -> RefusalForm {
+        RefusalForm::Json
+    }
+
+    fn reply_to_head(&self, head: &HttpMessage) -> Option<Reply> {
+        Echo.reply_to_head(head)
+    }
+
+    fn handle<T: Threads + Sync>(&mut self, rt: &T, message: HttpMessage) -> Reply {
+        Echo.handle(rt, message)
     }
 }
 
@@ -50,7 +79,15 @@ pub struct Front<'a> {
 }
 
 impl Handler for Front<'_> {
+    ghost refusals = { Status };
+
     ghost answers = { λ _ _ _ _. Unit {0} };
+
+    fn refusals() -> RefusalForm
+        ensures { result ≡ Status }
+    {
+        RefusalForm::Status
+    }
 
     fn reply_to_head(&self, head: &HttpMessage) -> Option<Reply> {
         match route(self.settings, head) {
@@ -87,7 +124,13 @@ pub struct Lacking {
 }
 
 impl Handler for Lacking {
+    ghost refusals = { Status };
+
     ghost answers = { λ _ _ _ _. Unit {0} };
+
+    fn refusals() -> RefusalForm {
+        RefusalForm::Status
+    }
 
     fn reply_to_head(&self, _head: &HttpMessage) -> Option<Reply> {
         None
@@ -107,7 +150,13 @@ pub struct Measuring {
 }
 
 impl Handler for Measuring {
+    ghost refusals = { Status };
+
     ghost answers = { λ _ _ _ _. Unit {0} };
+
+    fn refusals() -> RefusalForm {
+        RefusalForm::Status
+    }
 
     fn reply_to_head(&self, _head: &HttpMessage) -> Option<Reply> {
         None
@@ -127,7 +176,13 @@ pub struct Heedless {
 }
 
 impl Handler for Heedless {
+    ghost refusals = { Status };
+
     ghost answers = { λ _ _ _ _. Unit {0} };
+
+    fn refusals() -> RefusalForm {
+        RefusalForm::Status
+    }
 
     fn reply_to_head(&self, _head: &HttpMessage) -> Option<Reply> {
         RouteRefusal::NoSuchPath.reply(self.alloc).ok()

@@ -72,6 +72,19 @@ COUNTER_LIMIT = {UNAVAILABLE}Content-Length: 15\r\n\r\n\x12\x0dcounter limit
 HEAD_NO_MEMORY = {UNAVAILABLE}Content-Length: 15\r\n\r\n
 NO_MEMORY = {HEAD_NO_MEMORY}\x12\x0dout of memory
 NO_MEMORY_CLOSE = {UNAVAILABLE}{CLOSE}Content-Length: 15\r\n\r\n\x12\x0dout of memory
+## What is written where refusals are JSON
+JSON = Content-Type: application/json\r\n
+BAD_REQUEST = HTTP/1.1 400 Bad Request\r\n{JSON}{CLOSE}
+JSON_HEAD_BAD = {BAD_REQUEST}Content-Length: 23\r\n\r\n
+JSON_BAD = {JSON_HEAD_BAD}\x7b"error":"bad request"\x7d
+TOO_LONG = HTTP/1.1 413 Content Too Large\r\n{JSON}{CLOSE}
+JSON_HEAD_TOO_LARGE = {TOO_LONG}Content-Length: 26\r\n\r\n
+JSON_TOO_LARGE = {JSON_HEAD_TOO_LARGE}\x7b"error":"body too large"\x7d
+JSON_TOO_MANY = {FIELDS_TOO_LARGE}{JSON}{CLOSE}Content-Length: 34\r\n\r\n\x7b"error":"too many header fields"\x7d
+LACKING = HTTP/1.1 503 Service Unavailable\r\n{JSON}
+JSON_HEAD_NO_MEMORY = {LACKING}Content-Length: 25\r\n\r\n
+JSON_HEAD_NO_MEMORY_CLOSE = {LACKING}{CLOSE}Content-Length: 25\r\n\r\n
+NO_MEMORY_TOLD = \x7b"error":"out of memory"\x7d
 ## What back ends answer
 CHUNKS = {FOUND}Transfer-Encoding: chunked\r\n\r\n
 INTERIM = HTTP/1.1 102 Processing\r\n\r\n

@@ -1,12 +1,14 @@
 //! Talks and connections, in each way.
 
 use crate::connections::CONNECTIONS;
-use crate::handlers::{Echo, Front, Heedless, Lacking, Measuring};
+use crate::handlers::{Echo, Front, Heedless, JsonEcho, Lacking, Measuring};
 use crate::names::NAMES;
 use crate::notation::names_of;
-use crate::talks::{LONG_TALKS, TALKS};
+use crate::talks::{JSON_TALKS, LONG_TALKS, TALKS};
 use crate::ways::{Way, walk};
-use http_edge::{Allow, EdgeFault, MediaType, Reply, connection_buffer, reply_bytes, serve};
+use http_edge::{
+    Allow, EdgeFault, MediaType, RefusalForm, Reply, connection_buffer, reply_bytes, serve,
+};
 use http_line::{Line, MemoryLine};
 use std::alloc::{AllocError, Global};
 use std::test::Fail;
@@ -35,7 +37,17 @@ fn echoed<R: Threads + Sync>(
     walk(rt, alloc, &mut Echo, &names, talks, way)
 }
 
-/// The same of the connections to a front.
+/// How many talks at a port whose refusals are JSON are as they have to be, and the first that isn't.
+fn echoed_in_json<R: Threads + Sync>(
+    rt: &R,
+    alloc: Global,
+    way: Way,
+) -> Result<(u32, &'static str), AllocError> {
+    let names = names_of(alloc, NAMES)?;
+    walk(rt, alloc, &mut JsonEcho, &names, JSON_TALKS, way)
+}
+
+/// How many connections to a front are as they have to be, and the first that isn't.
 fn routed<R: Threads + Sync>(
     rt: &R,
     alloc: Global,
@@ -69,6 +81,19 @@ fn long_talks(rt: HostRuntime) -> Result<(), Fail> {
 #[test]
 fn talks_with_or_without_memory(rt: HostRuntime) -> Result<(), Fail> {
     assert_eq!(rt; echoed(&rt, rt.alloc(), TALKS, Way::Refused)?, (217, ""));
+    Ok(())
+}
+
+#[test]
+fn refusals_in_json(rt: HostRuntime) -> Result<(), Fail> {
+    assert_eq!(rt; echoed_in_json(&rt, rt.alloc(), Way::Cut)?, (15, ""));
+    assert_eq!(rt; echoed_in_json(&rt, rt.alloc(), Way::Failing)?, (15, ""));
+    Ok(())
+}
+
+#[test]
+fn refusals_in_json_with_or_without_memory(rt: HostRuntime) -> Result<(), Fail> {
+    assert_eq!(rt; echoed_in_json(&rt, rt.alloc(), Way::Refused)?, (15, ""));
     Ok(())
 }
 
@@ -247,7 +272,7 @@ fn is_written(
     let want = format!(in alloc;
         "HTTP/1.1 {begin}Connection: close\r\nContent-Length: 1\r\n\r\na"
     )?;
-    Ok(reply_bytes(alloc, &reply, true)?.as_slice() == want.as_bytes())
+    Ok(reply_bytes(alloc, RefusalForm::Status, &reply, true)?.as_slice() == want.as_bytes())
 }
 
 /// Each kind of content, and each status that no talk has.
@@ -265,7 +290,7 @@ const REPLIES: [(u16, MediaType, &str); 5] = [
     (
         401,
         MediaType::Json,
-        "401 Unauthorized\r\nContent-Type: application/json\r\nWWW-Authenticate: Bearer\r\n",
+        "401 Unauthorized\r\nContent-Type: application/json\r\nWWW-Authenticate: Bearer realm=\"nimchaes\"\r\n",
     ),
     (
         409,

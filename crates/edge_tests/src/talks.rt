@@ -1,6 +1,32 @@
 //! Talks with a handler that answers with the body that it was sent, and with the status that a target's digits say:
 //! what is read, and what is to be written for it. They were worked out by hand, from RFC 9112 and from docs/HTTP.md.
 
+/// Talks at a port whose refusals are JSON: what is refused there, and that no other reply is another.
+pub const JSON_TALKS: &str = r#"
+# a head that is none, with one behind it
+\x20{GET}{GET} -> {JSON_BAD}
+# no Host, and the reply to HEAD
+GET / HTTP/1.1\r\n\r\n -> {JSON_BAD}
+HEAD / HTTP/1.1\r\n\r\n -> {JSON_HEAD_BAD}
+# more fields than there is room for
+GET /{C}{FIELD*64}{NL} -> {JSON_TOO_MANY}
+# a length that is too great, and the reply to HEAD
+{GET}{LENGTH} 20971521\r\n\r\nabc -> {OK}{JSON_TOO_LARGE}
+HEAD /{C}Content-Length: 20971521\r\n\r\n -> {JSON_HEAD_TOO_LARGE}
+# chunks that are too long, and that are none
+{CHUNKED}3\r\nabc\r\n13ffffe\r\n -> {JSON_TOO_LARGE}
+{POST}Expect: 100-continue\r\nTransfer-Encoding: chunked\r\n\r\n1400001\r\n -> {CONTINUE}{JSON_TOO_LARGE}
+{CHUNKED}z\r\n -> {JSON_BAD}
+HEAD /{C}Transfer-Encoding: chunked\r\n\r\nz\r\n -> {JSON_HEAD_BAD}
+# no memory
+POST /503{C}\r\n{GET} -> {JSON_HEAD_NO_MEMORY}{NO_MEMORY_TOLD}{OK}
+POST /503 HTTP/1.0\r\n\r\n{GET} -> {JSON_HEAD_NO_MEMORY_CLOSE}{NO_MEMORY_TOLD}
+HEAD /503{C}\r\n{GET} -> {JSON_HEAD_NO_MEMORY}{OK}
+HEAD /503 HTTP/1.0\r\n\r\n{GET} -> {JSON_HEAD_NO_MEMORY_CLOSE}
+# what the handler says
+POST /431{C}Content-Length: 1\r\n\r\na -> {FIELDS_TOO_LARGE}{OF_A}
+"#;
+
 /// Talks of a few hundred bytes.
 pub const TALKS: &str = r#"
 ## Heads that are taken

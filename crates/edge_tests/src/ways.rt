@@ -1,7 +1,7 @@
 //! The ways in which a talk is gone through.
 
 use crate::notation::{Name, unfolded};
-use http_edge::{EdgeFault, Handler, connection_buffer, serve};
+use http_edge::{EdgeFault, Handler, RefusalForm, connection_buffer, serve};
 use http_line::{Line, MemoryLine};
 use std::alloc::{AllocError, Global};
 use std::thread::Threads;
@@ -155,9 +155,16 @@ fn used_buffer(alloc: Global) -> Result<Vec<u8>, AllocError> {
 }
 
 /// What a client is told where memory was refused before its reply was there.
-const NO_MEMORY: &[u8] =
-    b"HTTP/1.1 503 Service Unavailable\r\nContent-Type: application/x-protobuf\r\n\
-Connection: close\r\nContent-Length: 15\r\n\r\n\x12\x0dout of memory";
+fn no_memory(form: RefusalForm) -> &'static [u8] {
+    match form {
+        RefusalForm::Status =>
+            b"HTTP/1.1 503 Service Unavailable\r\nContent-Type: application/x-protobuf\r\n\
+Connection: close\r\nContent-Length: 15\r\n\r\n\x12\x0dout of memory",
+        RefusalForm::Json =>
+            b"HTTP/1.1 503 Service Unavailable\r\nContent-Type: application/json\r\n\
+Connection: close\r\nContent-Length: 25\r\n\r\n{\"error\":\"out of memory\"}",
+    }
+}
 
 /// Whether a talk is as it has to be, or the client is told that there was no memory: by the handler's reply, or
 /// behind a beginning of what is to be written. Only a line without memory for what is written breaks it off.
@@ -174,7 +181,7 @@ fn is_told_or_refused<R: Threads + Sync, H: Handler>(
         Ok(()) => line.output() == talk.want.as_slice() || tells_of_memory(line.output()),
         Err(EdgeFault::ReadFailed) => false,
         Err(EdgeFault::WriteFailed) => talk.want.starts_with(line.output()),
-        Err(EdgeFault::OutOfMemory) => match line.output().strip_suffix(NO_MEMORY) {
+        Err(EdgeFault::OutOfMemory) => match line.output().strip_suffix(no_memory(H::refusals())) {
             Some(front) => talk.want.starts_with(front),
             None => false,
         },

@@ -354,9 +354,6 @@ at_more (Bytes left) stream body rest more p = record {
 }
 at_more Trailer stream body rest more p = reaches_more more p
 
-pub at_start : (stream : List ℕ) → IsAt stream Line [] stream
-at_start stream = record { chunks = []; after = stream; whole = refl; gives = refl; opens = refl }
-
 fails_more : (part : Part) (rest more : List ℕ) → FailsAt part rest → FailsAt part (rest ++ more)
 fails_more line_part rest more p = bad_line_more more p
 fails_more (bytes_part n) rest more p =

@@ -9,6 +9,7 @@ use Rattle.http_edge.specs.Talk.{Exchange, exchange_text, interim_text, Asks, to
 use Rattle.http_edge.specs.Reply.{continue_text, is_for_no_memory, no_memory_text}
 use Rattle.http_edge.specs.Stages.{IsHead, IsHeadOf, IsMessageOf, kept_if, frame_by, message_with, IsBrokenOff, IsShort, IsCut, IsOver, StaysOpen, Replies}
 use Rattle.http_edge.specs.Seen.{seen}
+use Rattle.http_edge.specs.declared.message.RefusalForm.{RefusalForm}
 use Rattle.http_line.specs.Line.{Moves}
 use Rattle.http_line.proofs.Moved.{then_to}
 use Rattle.http_edge.proofs.Heads.{has_head_more}
@@ -49,10 +50,11 @@ pub runs_more : {H : Type 0} (answers : H → Request → Response → H → Typ
 runs_more answers old mid new [] e p q = (new, rw p at q, refl)
 runs_more answers old mid new (d ∷ es) e p q = (p.0, p.1, runs_more answers p.0 mid new es e p.2 q)
 
-pub told_more : (es : List Exchange) (e : Exchange) → told (es ++ e ∷ []) ≡ told es ++ exchange_text e
-told_more [] e = append-nil (exchange_text e)
-told_more (d ∷ es) e = ap (λ v. exchange_text d ++ v) (told_more es e)
-    ∙ sym (append_assoc (exchange_text d) (told es) (exchange_text e))
+pub told_more : (form : RefusalForm) (es : List Exchange) (e : Exchange)
+    → told form (es ++ e ∷ []) ≡ told form es ++ exchange_text form e
+told_more form [] e = append-nil (exchange_text form e)
+told_more form (d ∷ es) e = ap (λ v. exchange_text form d ++ v) (told_more form es e)
+    ∙ sym (append_assoc (exchange_text form d) (told form es) (exchange_text form e))
 
 -- the interim text is due
 pub may_interim : {bytes : List ℕ} {head : Head} {h : RequestHead} (read : List ℕ) → IsHead bytes head h
@@ -65,9 +67,9 @@ may_interim {bytes} {head} {h} read p = record {
   short = p.fits;
 }
 
-pub due_interim : {H : Type 0} (answers : H → Request → Response → H → Type 0) (s : H) {bytes : List ℕ} {head : Head}
+pub due_interim : {form : RefusalForm} {H : Type 0} (answers : H → Request → Response → H → Type 0) (s : H) {bytes : List ℕ} {head : Head}
     {h : RequestHead} (read front missing : List ℕ) → IsHead bytes head h
-    → (if head.expects then continue_text else []) ≡ front ++ missing → Due answers s (bytes ++ read) s (front
+    → (if head.expects then continue_text else []) ≡ front ++ missing → Due form answers s (bytes ++ read) s (front
     ++ missing)
 due_interim answers s {bytes} {head} {h} read front missing p e =
     let t : interim_text h ≡ front ++ missing = ap (λ (b : Bool). if b then continue_text else []) (sym p.says.expects)
@@ -85,23 +87,23 @@ pub all_moves : {L : Type 0} {gives takes : L → L → List ℕ → Type 0} {l0
     → Moves gives takes l2 l3 [] text → Moves gives takes l0 l3 read (interim_text h ++ text)
 all_moves {read = read} due h e p q r = then_to (first_moves due h e p q) r (append-nil read) refl
 
-pub reply_whole : {H : Type 0} (answers : H → Request → Response → H
-    → Type 0) {old new : H} {m : Message} {text missing : List ℕ} (p : Replies answers old new m text missing)
-    → exchange_text (record { message = m; reply = p.reply }) ≡ (interim_text m.head ++ text) ++ missing
+pub reply_whole : {form : RefusalForm} {H : Type 0} (answers : H → Request → Response → H
+    → Type 0) {old new : H} {m : Message} {text missing : List ℕ} (p : Replies form answers old new m text missing)
+    → exchange_text form (record { message = m; reply = p.reply }) ≡ (interim_text m.head ++ text) ++ missing
 unfolding exchange_text
 reply_whole answers {old} {new} {m} {text} {missing} p = ap (λ v. interim_text m.head ++ v) p.text
     ∙ sym (append_assoc (interim_text m.head) text missing)
 
-pub due_reply : {H : Type 0} (answers : H → Request → Response → H
+pub due_reply : {form : RefusalForm} {H : Type 0} (answers : H → Request → Response → H
     → Type 0) {old new : H} {m : Message} {text missing : List ℕ} (bytes after : List ℕ) → HasMessage bytes m after
-    → Replies answers old new m text missing → Due answers old bytes new ((interim_text m.head ++ text) ++ missing)
+    → Replies form answers old new m text missing → Due form answers old bytes new ((interim_text m.head ++ text) ++ missing)
 due_reply answers {old} {new} {m} {text} {missing} bytes after has p =
     rw (← reply_whole answers p) (replying (record { message = m; reply = p.reply }) after has p.answered)
 
 -- there was no memory for the bytes of the reply
-pub lacks_reply : {H : Type 0} (answers : H → Request → Response → H
+pub lacks_reply : {form : RefusalForm} {H : Type 0} (answers : H → Request → Response → H
     → Type 0) {old new : H} {m : Message} {text missing : List ℕ} (bytes after : List ℕ) → HasMessage bytes m after
-    → (p : Replies answers old new m text missing) → is_for_no_memory p.reply ≡ false
+    → (p : Replies form answers old new m text missing) → is_for_no_memory p.reply ≡ false
     → Lacks answers old bytes new (interim_text m.head)
 lacks_reply answers {m = m} bytes after has p is =
     at_reply (record { message = m; reply = p.reply }) after has p.answered is
@@ -141,11 +143,11 @@ request_is {m = m} is =
     λ i. record { method = is.says.method i; target = is.says.target i; headers = is.says.headers i; body = m.body }
 
 -- the same from an earlier moment, before these bytes were read
-pub goes_after : {H : Type 0} {answers : H → Request → Response → H
+pub goes_after : {form : RefusalForm} {H : Type 0} {answers : H → Request → Response → H
     → Type 0} {old new : H} {L : Type 0} {gives takes : L → L → List ℕ → Type 0} {l0 l1 l2 : L} {b0 b1 after read : List ℕ}
-    → Moves gives takes l0 l1 read [] → b1 ≡ b0 ++ read → StaysOpen answers old new gives takes l1 l2 b1 after
-    → StaysOpen answers old new gives takes l0 l2 b0 after
-goes_after {H} {answers} {old} {new} {L} {gives} {takes} {l0} {l1} {l2} {b0} {b1} {after} {read} p e q = record {
+    → Moves gives takes l0 l1 read [] → b1 ≡ b0 ++ read → StaysOpen form answers old new gives takes l1 l2 b1 after
+    → StaysOpen form answers old new gives takes l0 l2 b0 after
+goes_after {b0 = b0} {read = read} p e q = record {
   read = read ++ q.read;
   exchange = q.exchange;
   moves = then_to p q.moves refl refl;
@@ -154,25 +156,24 @@ goes_after {H} {answers} {old} {new} {L} {gives} {takes} {l0} {l1} {l2} {b0} {b1
   answered = q.answered;
 }
 
-pub over_after : {H : Type 0} {answers : H → Request → Response → H
+pub over_after : {form : RefusalForm} {H : Type 0} {answers : H → Request → Response → H
     → Type 0} {old new : H} {L : Type 0} {gives takes : L → L → List ℕ → Type 0} {l0 l1 l2 : L} {b0 b1 read : List ℕ} {ended1 ended0 : Type 0}
     → (ended1 → ended0) → Moves gives takes l0 l1 read [] → b1 ≡ b0 ++ read
-    → IsOver answers old new gives takes l1 l2 ended1 b1 → IsOver answers old new gives takes l0 l2 ended0 b0
-over_after {H} {answers} {old} {new} {L} {gives} {takes} {l0} {l1} {l2} {b0} {b1} {read} {ended1} {ended0} since p e
-    q = record {
-      read = read ++ q.read;
-      text = q.text;
-      over = q.over;
-      moves = then_to p q.moves refl refl;
-      ends = rw (← append_assoc b0 read q.read, ← e) q.ends;
-      end = λ f. since (q.end f);
-    }
+    → IsOver form answers old new gives takes l1 l2 ended1 b1 → IsOver form answers old new gives takes l0 l2 ended0 b0
+over_after {b0 = b0} {read = read} since p e q = record {
+  read = read ++ q.read;
+  text = q.text;
+  over = q.over;
+  moves = then_to p q.moves refl refl;
+  ends = rw (← append_assoc b0 read q.read, ← e) q.ends;
+  end = λ f. since (q.end f);
+}
 
-broken_after : {H : Type 0} {answers : H → Request → Response → H
+broken_after : {form : RefusalForm} {H : Type 0} {answers : H → Request → Response → H
     → Type 0} {old new : H} {L : Type 0} {gives takes : L → L → List ℕ → Type 0} {l0 l1 l2 : L} {b0 b1 read : List ℕ} → Moves gives takes l0 l1 read []
-    → b1 ≡ b0 ++ read → IsBrokenOff answers old new gives takes l1 l2 b1
-    → IsBrokenOff answers old new gives takes l0 l2 b0
-broken_after {H} {answers} {old} {new} {L} {gives} {takes} {l0} {l1} {l2} {b0} {b1} {read} p e q = record {
+    → b1 ≡ b0 ++ read → IsBrokenOff form answers old new gives takes l1 l2 b1
+    → IsBrokenOff form answers old new gives takes l0 l2 b0
+broken_after {b0 = b0} {read = read} p e q = record {
   read = read ++ q.read;
   written = q.written;
   moves = then_to p q.moves refl refl;
@@ -184,34 +185,34 @@ short_after : {H : Type 0} {answers : H → Request → Response → H
     → Type 0} {old new : H} {L : Type 0} {gives takes : L → L → List ℕ → Type 0} {l0 l1 l2 : L} {b0 b1 read : List ℕ} → Moves gives takes l0 l1 read []
     → b1 ≡ b0 ++ read → IsShort answers old new gives takes l1 l2 b1
     → IsShort answers old new gives takes l0 l2 b0
-short_after {H} {answers} {old} {new} {L} {gives} {takes} {l0} {l1} {l2} {b0} {b1} {read} p e q = record {
+short_after {b0 = b0} {read = read} p e q = record {
   read = read ++ q.read;
   written = q.written;
   moves = then_to p q.moves refl refl;
   lacks = rw (← append_assoc b0 read q.read, ← e) q.lacks;
 }
 
-pub cut_after : {H : Type 0} {fault : EdgeFault} {answers : H → Request → Response → H
+pub cut_after : {form : RefusalForm} {H : Type 0} {fault : EdgeFault} {answers : H → Request → Response → H
     → Type 0} {old new : H} {L : Type 0} {gives takes : L → L → List ℕ → Type 0} {l0 l1 l2 : L} {b0 b1 read : List ℕ} → Moves gives takes l0 l1 read []
-    → b1 ≡ b0 ++ read → IsCut fault answers old new gives takes l1 l2 b1
-    → IsCut fault answers old new gives takes l0 l2 b0
+    → b1 ≡ b0 ++ read → IsCut form fault answers old new gives takes l1 l2 b1
+    → IsCut form fault answers old new gives takes l0 l2 b0
 cut_after p e q = record {
   broken = λ lack. broken_after p e (q.broken lack);
   short = λ lack. short_after p e (q.short lack);
 }
 
 -- by the same fault
-pub cut_by : {H : Type 0} {fault other : EdgeFault} {answers : H → Request → Response → H
+pub cut_by : {form : RefusalForm} {H : Type 0} {fault other : EdgeFault} {answers : H → Request → Response → H
     → Type 0} {old new : H} {L : Type 0} {gives takes : L → L → List ℕ → Type 0} {first last : L} {before : List ℕ}
-    → IsCut fault answers old new gives takes first last before → fault ≡ other
-    → IsCut other answers old new gives takes first last before
-cut_by {answers = answers} {old = old} {new = new} {gives = gives} {takes = takes} {first = first} {last = last} {before = before} p e =
-    subst (λ f. IsCut f answers old new gives takes first last before) e p
+    → IsCut form fault answers old new gives takes first last before → fault ≡ other
+    → IsCut form other answers old new gives takes first last before
+cut_by {form = form} {answers = answers} {old = old} {new = new} {gives = gives} {takes = takes} {first = first} {last = last} {before = before} p e =
+    subst (λ f. IsCut form f answers old new gives takes first last before) e p
 
 -- a fault of the line broke the talk off
-pub breaks : {H : Type 0} {answers : H → Request → Response → H → Type 0} {old new : H} {fault : EdgeFault} {read : List ℕ}
-    (written missing : List ℕ) → fault ≢ OutOfMemory → Talks answers (Due answers) old read new (written ++ missing)
-    → Begins fault answers old read new written
+pub breaks : {form : RefusalForm} {H : Type 0} {answers : H → Request → Response → H → Type 0} {old new : H} {fault : EdgeFault} {read : List ℕ}
+    (written missing : List ℕ) → fault ≢ OutOfMemory → Talks form answers (Due form answers) old read new (written ++ missing)
+    → Begins form fault answers old read new written
 breaks written missing line t = (
   missing,
   record {
@@ -228,10 +229,10 @@ breaks written missing line t = (
 )
 
 -- after want of memory this much was written of the reply that says so
-pub tells : {H : Type 0} {answers : H → Request → Response → H → Type 0} {old new : H} {fault : EdgeFault} {read written : List ℕ}
-    (front missing : List ℕ) → fault ≢ ReadFailed → no_memory_text ≡ front ++ missing → (fault ≡ OutOfMemory → missing ≡ [])
-    → Talks answers (Lacks answers) old read new written → Begins fault answers old read new (written ++ front)
-tells {written = written} front missing no_read parts whole t = (
+pub tells : (form : RefusalForm) {H : Type 0} {answers : H → Request → Response → H → Type 0} {old new : H} {fault : EdgeFault} {read written : List ℕ}
+    (front missing : List ℕ) → fault ≢ ReadFailed → no_memory_text form ≡ front ++ missing → (fault ≡ OutOfMemory → missing ≡ [])
+    → Talks form answers (Lacks answers) old read new written → Begins form fault answers old read new (written ++ front)
+tells form {written = written} front missing no_read parts whole t = (
   missing,
   record {
     exchanges = t.exchanges;
@@ -239,11 +240,12 @@ tells {written = written} front missing no_read parts whole t = (
     reads = t.reads;
     mid = t.mid;
     runs = t.runs;
-    last = t.last ++ no_memory_text;
+    last = t.last ++ no_memory_text form;
     due = lacking t.last no_read t.due;
     writes = append_assoc written front missing
         ∙ (ap (λ v. written ++ v) (sym parts)
-        ∙ (ap (λ v. v ++ no_memory_text) t.writes ∙ append_assoc (told t.exchanges) t.last no_memory_text));
+        ∙ (ap (λ v. v ++ no_memory_text form) t.writes
+        ∙ append_assoc (told form t.exchanges) t.last (no_memory_text form)));
   },
   whole,
 )

@@ -6,6 +6,8 @@ use Rattle.http_edge.specs.declared.message.Allow.{Allow}
 use Rattle.http_edge.specs.declared.message.Allow.TheVariants as allow
 use Rattle.http_edge.specs.declared.message.MediaType.{MediaType}
 use Rattle.http_edge.specs.declared.message.MediaType.TheVariants.{Protobuf, Metrics, Json, Html}
+use Rattle.http_edge.specs.declared.message.RefusalForm.{RefusalForm}
+use Rattle.http_edge.specs.declared.message.RefusalForm.TheVariants as forms
 
 -- the reason phrase (RFC 9110, section 15), and none for a status that this server has no use for
 abbrev pub phrase_of : ℕ → List ℕ
@@ -41,7 +43,7 @@ allow_line methods = codes "Allow: " ++ methods_of methods ++ crlf_bytes
 -- section 4) tell the client beside
 abbrev pub advice_of : ℕ → Allow → List ℕ
 advice_of status methods =
-    if status == 401 then codes "WWW-Authenticate: Bearer" ++ crlf_bytes
+    if status == 401 then codes "WWW-Authenticate: Bearer realm=\"nimchaes\"" ++ crlf_bytes
     else (if status == 405 then allow_line methods
     else (if status == 429 then codes "Retry-After: 1" ++ crlf_bytes else []))
 
@@ -76,22 +78,45 @@ plain_text bodiless close reply =
 abbrev pub status_body : List ℕ → List ℕ
 status_body message = 18 ∷ length message ∷ message
 
+-- an object of one member (RFC 8259, section 4), whose value is a message of which nothing is to be escaped
+abbrev pub error_body : List ℕ → List ℕ
+error_body message = codes "{\"error\":\"" ++ message ++ codes "\"}"
+
+-- what the content of a refusal in this form is
+abbrev pub refusal_media : RefusalForm → MediaType
+refusal_media forms.Status = Protobuf
+refusal_media forms.Json = Json
+
+-- the content of a refusal in this form that says this
+abbrev pub refusal_body : RefusalForm → List ℕ → List ℕ
+refusal_body forms.Status message = status_body message
+refusal_body forms.Json message = error_body message
+
+-- the refusal in this form that has this status and says this
+abbrev pub refused_with : RefusalForm → ℕ → List ℕ → Response
+refused_with form status message = record {
+  status = status;
+  media = refusal_media form;
+  allow = allow.Post;
+  body = refusal_body form message;
+}
+
 -- the reply where there was no memory for another
-abbrev pub out_of_memory : Response
-out_of_memory = record { status = 503; media = Protobuf; allow = allow.Post; body = status_body (codes "out of memory") }
+abbrev pub out_of_memory : RefusalForm → Response
+out_of_memory form = refused_with form 503 (codes "out of memory")
 
 -- its bytes where the connection closes after it, as they are written where the request is not known
-abbrev pub no_memory_text : List ℕ
-no_memory_text = plain_text false true out_of_memory
+abbrev pub no_memory_text : RefusalForm → List ℕ
+no_memory_text form = plain_text false true (out_of_memory form)
 
 -- a 503 without a body stands for it, so that it takes no memory to ask for it
 abbrev pub is_for_no_memory : Response → Bool
 is_for_no_memory reply = (reply.status == 503) && (length reply.body == 0)
 
--- the bytes that are written for a reply
-unfoldable pub reply_text : Bool → Bool → Response → List ℕ
-reply_text bodiless close reply =
-    if is_for_no_memory reply then plain_text bodiless close out_of_memory else plain_text bodiless close reply
+-- the bytes that are written for a reply, by who has its refusals in this form
+unfoldable pub reply_text : RefusalForm → Bool → Bool → Response → List ℕ
+reply_text form bodiless close reply =
+    if is_for_no_memory reply then plain_text bodiless close (out_of_memory form) else plain_text bodiless close reply
 
 -- the words to a client whose message is bad
 abbrev pub refusal_message : ℕ → List ℕ
@@ -100,17 +125,12 @@ refusal_message status =
     else (if status == 431 then codes "too many header fields" else codes "bad request")
 
 -- the reply to a bad message
-abbrev pub refusal : ℕ → Response
-refusal status = record {
-  status = status;
-  media = Protobuf;
-  allow = allow.Post;
-  body = status_body (refusal_message status);
-}
+abbrev pub refusal : RefusalForm → ℕ → Response
+refusal form status = refused_with form status (refusal_message status)
 
 -- its bytes: the connection closes after it
-abbrev pub refusal_text : Bool → ℕ → List ℕ
-refusal_text bodiless status = reply_text bodiless true (refusal status)
+abbrev pub refusal_text : RefusalForm → Bool → ℕ → List ℕ
+refusal_text form bodiless status = reply_text form bodiless true (refusal form status)
 
 -- what tells a client to send its body (RFC 9110, section 15.2.1)
 abbrev pub continue_text : List ℕ

@@ -26,7 +26,8 @@ use Rattle.http_edge.specs.declared.chunks.Piece.TheVariants as Found
 use Rattle.http_edge.specs.Chunks.{line_part, bytes_part, trailer_part, Reaches, FailsAt, LacksAt, HasChunkedBody, StopsAt}
 use Rattle.http_edge.specs.Message.{Request, Response, Message, Frame, sized, chunked, headers_of, framing_of, max_fields, max_body, HasHead, HasBody, IsTooLong, IsBroken, LacksBody, HasMessage, request_of, expects, closes, is_bodiless}
 use Rattle.http_edge.specs.Talk.{RefusesHead, head_lines, Exchange, exchange_text, Ends, Due, Lacks, Talks}
-use Rattle.http_edge.specs.Reply.{reply_text, refusal_text, is_for_no_memory}
+use Rattle.http_edge.specs.Reply.{reply_text, is_for_no_memory}
+use Rattle.http_edge.specs.declared.message.RefusalForm.{RefusalForm}
 use Rattle.http_line.specs.Line.{Moves}
 use Rattle.http_edge.specs.Seen.{header_of}
 
@@ -77,7 +78,7 @@ abbrev pub IsHeadProgress : List ℕ → HeadProgress → Type 0
 IsHeadProgress bytes (Whole head) = (h : RequestHead) × IsHead bytes head h
 IsHeadProgress bytes More = HasNoRequest bytes × MayBecomeRequest bytes
 IsHeadProgress bytes TooMany = HasNoRequest bytes × MayBecomeRequest bytes × (max_fields + 1 < head_lines bytes)
-IsHeadProgress bytes (Refuse status bodiless) = RefusesHead bytes (refusal_text bodiless status)
+IsHeadProgress bytes (Refuse status bodiless) = RefusesHead bytes bodiless status
 
 -- what is kept of a body: all of it where it is wanted, and nothing where it isn't
 abbrev pub kept_if : Bool → List ℕ → List ℕ
@@ -159,62 +160,68 @@ IsRead wanted frame stream after Read.Bad = (frame ≡ chunked) × IsBroken stre
 IsRead wanted frame stream after Read.Ended = LacksBody frame stream
 
 -- the handler's answer and what is written of it
-pub record Replies {H : Type 0} (answers : H → Request → Response → H
+pub record Replies (form : RefusalForm) {H : Type 0} (answers : H → Request → Response → H
     → Type 0) (old new : H) (m : Message) (written missing : List ℕ) : Type 0 where
   pub reply : Response
   pub answered : answers old (request_of m) reply new
-  pub text : reply_text (is_bodiless m.head) (closes m.head) reply ≡ written ++ missing
+  pub text : reply_text form (is_bodiless m.head) (closes m.head) reply ≡ written ++ missing
 
 -- the message was answered, the reply is written whole, and the connection goes on or not
-abbrev pub RepliesWhole : {H : Type 0} → (H → Request → Response → H → Type 0) → (old new : H)
+abbrev pub RepliesWhole : RefusalForm → {H : Type 0} → (H → Request → Response → H → Type 0) → (old new : H)
     → {L : Type 0} → (gives takes : L → L → List ℕ → Type 0) → (first last : L) → Message → Bool → Type 0
-RepliesWhole answers old new gives takes first last m goes = (text : List ℕ)
-    × Moves gives takes first last [] text × Replies answers old new m text [] × (goes ≡ not (closes m.head))
+RepliesWhole form answers old new gives takes first last m goes = (text : List ℕ)
+    × Moves gives takes first last [] text × Replies form answers old new m text [] × (goes ≡ not (closes m.head))
+
+-- the message was answered, and a beginning of the reply is written
+abbrev pub RepliesInPart : RefusalForm → {H : Type 0} → (H → Request → Response → H → Type 0) → (old new : H)
+    → {L : Type 0} → (gives takes : L → L → List ℕ → Type 0) → (first last : L) → Message → Type 0
+RepliesInPart form answers old new gives takes first last m = (text : List ℕ)
+    × Moves gives takes first last [] text × (missing : List ℕ) × Replies form answers old new m text missing
 
 -- the message was answered, by no reply for want of memory, and nothing is written of the reply
-abbrev pub RepliesUnwritten : {H : Type 0} → (H → Request → Response → H → Type 0) → (old new : H)
+abbrev pub RepliesUnwritten : RefusalForm → {H : Type 0} → (H → Request → Response → H → Type 0) → (old new : H)
     → {L : Type 0} → (gives takes : L → L → List ℕ → Type 0) → (first last : L) → Message → Type 0
-RepliesUnwritten answers old new gives takes first last m = Moves gives takes first last [] []
-    × (missing : List ℕ) × (told : Replies answers old new m [] missing) × (is_for_no_memory told.reply ≡ false)
+RepliesUnwritten form answers old new gives takes first last m = Moves gives takes first last [] []
+    × (missing : List ℕ) × (told : Replies form answers old new m [] missing) × (is_for_no_memory told.reply ≡ false)
 
 -- a message was answered, and the connection goes on
-pub record StaysOpen {H : Type 0} (answers : H → Request → Response → H
+pub record StaysOpen (form : RefusalForm) {H : Type 0} (answers : H → Request → Response → H
     → Type 0) (old new : H) {L : Type 0} (gives takes : L → L → List ℕ → Type 0) (first last : L)
     (before after : List ℕ) : Type 0 where
   pub read : List ℕ
   pub exchange : Exchange
-  pub moves : Moves gives takes first last read (exchange_text exchange)
+  pub moves : Moves gives takes first last read (exchange_text form exchange)
   pub has : HasMessage (before ++ read) exchange.message after
   pub stays : closes exchange.message.head ≡ false
   pub answered : answers old (request_of exchange.message) exchange.reply new
 
 -- the talk has come to its end
-pub record IsOver {H : Type 0} (answers : H → Request → Response → H
+pub record IsOver (form : RefusalForm) {H : Type 0} (answers : H → Request → Response → H
     → Type 0) (old new : H) {L : Type 0} (gives takes : L → L → List ℕ → Type 0) (first last : L) (ended : Type 0)
     (before : List ℕ) : Type 0 where
   pub read : List ℕ
   pub text : List ℕ
   pub over : Bool
   pub moves : Moves gives takes first last read text
-  pub ends : Ends answers old (before ++ read) new text over
+  pub ends : Ends form answers old (before ++ read) new text over
   pub end : over ≡ false → ended
 
 -- a failed call of the line broke it off
-pub record IsBrokenOff {H : Type 0} (answers : H → Request → Response → H
+pub record IsBrokenOff (form : RefusalForm) {H : Type 0} (answers : H → Request → Response → H
     → Type 0) (old new : H) {L : Type 0} (gives takes : L → L → List ℕ → Type 0) (first last : L) (before : List ℕ)
     : Type 0 where
   pub read : List ℕ
   pub written : List ℕ
   pub moves : Moves gives takes first last read written
   pub missing : List ℕ
-  pub due : Due answers old (before ++ read) new (written ++ missing)
+  pub due : Due form answers old (before ++ read) new (written ++ missing)
 
 -- the same of a whole talk
-abbrev pub BreaksOff : {H : Type 0} → (H → Request → Response → H → Type 0) → (old new : H)
+abbrev pub BreaksOff : RefusalForm → {H : Type 0} → (H → Request → Response → H → Type 0) → (old new : H)
     → {L : Type 0} → (gives takes : L → L → List ℕ → Type 0) → (first last : L) → Type 0
-BreaksOff answers old new gives takes first last = (read : List ℕ) × (written : List ℕ)
+BreaksOff form answers old new gives takes first last = (read : List ℕ) × (written : List ℕ)
     × Moves gives takes first last read written
-    × (missing : List ℕ) × Talks answers (Due answers) old read new (written ++ missing)
+    × (missing : List ℕ) × Talks form answers (Due form answers) old read new (written ++ missing)
 
 -- want of memory ended it, and nothing was said of that
 pub record IsShort {H : Type 0} (answers : H → Request → Response → H
@@ -226,8 +233,8 @@ pub record IsShort {H : Type 0} (answers : H → Request → Response → H
   pub lacks : Lacks answers old (before ++ read) new written
 
 -- this fault ended it
-pub record IsCut {H : Type 0} (fault : EdgeFault) (answers : H → Request → Response → H
+pub record IsCut (form : RefusalForm) {H : Type 0} (fault : EdgeFault) (answers : H → Request → Response → H
     → Type 0) (old new : H) {L : Type 0} (gives takes : L → L → List ℕ → Type 0) (first last : L) (before : List ℕ)
     : Type 0 where
-  pub broken : fault ≢ OutOfMemory → IsBrokenOff answers old new gives takes first last before
+  pub broken : fault ≢ OutOfMemory → IsBrokenOff form answers old new gives takes first last before
   pub short : fault ≡ OutOfMemory → IsShort answers old new gives takes first last before

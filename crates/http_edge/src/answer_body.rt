@@ -74,8 +74,7 @@ pub(crate) fn read_answer_body<L: Line>(
     ensures no_write { result ≢ Err EdgeFault.WriteFailed }
 {
     if is_chunked(framing) {
-        let chunks = read_answer_chunks(alloc, line, room, buffer)?;
-        return Ok(chunks);
+        return read_answer_chunks(alloc, line, room, buffer);
     }
     let plain = read_plain_body(alloc, line, room, buffer, framing)?;
     Ok(plain)

@@ -91,16 +91,13 @@ pub(crate) fn read_body<L: Line>(
 {
     match kind {
         BodyKind::Sized(len) => if wanted {
-            let body = read_sized(alloc, line, room, buffer, from, len as usize)?;
-            Ok(body)
+            read_sized(alloc, line, room, buffer, from, len as usize)
         } else {
-            let body = skip_sized(alloc, line, room, buffer, from, len as usize)?;
-            Ok(body)
+            skip_sized(alloc, line, room, buffer, from, len as usize)
         },
         BodyKind::Chunks => {
             drop_front(buffer, from);
-            let body = read_chunks(alloc, line, room, buffer, wanted)?;
-            Ok(body)
+            read_chunks(alloc, line, room, buffer, wanted)
         }
     }
 }

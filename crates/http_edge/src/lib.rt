@@ -23,7 +23,9 @@ mod single;
 mod wire;
 
 pub use crate::answer::{one_answer, read_answer};
-pub use crate::message::{Allow, Handler, Header, HttpMessage, MediaType, Reply, one_talk};
+pub use crate::message::{
+    Allow, Handler, Header, HttpMessage, MediaType, RefusalForm, Reply, one_talk,
+};
 pub use crate::post::write_post;
 pub use crate::reply::reply_bytes;
 pub use crate::server::{connection_buffer, serve};

@@ -1,19 +1,24 @@
 //! Replies as bytes.
 ghost use Rattle.std.specs.Prelude.{◌≡◌, IfOk, false, decimal, if◌then◌else◌};
 ghost use Rattle.http_edge.specs.Seen.{response_of};
-ghost use Rattle.http_edge.specs.Reply.{phrase_of, advice_of, allow_line, close_line, type_line, head_text_of, plain_text, reply_text, out_of_memory, is_for_no_memory, status_body, refusal_message};
+ghost use Rattle.http_edge.specs.Reply.{phrase_of, advice_of, allow_line, close_line, type_line, head_text_of, plain_text, reply_text, out_of_memory, is_for_no_memory, refusal_body, refusal_media, refusal_message};
 
-use crate::message::{Allow, MediaType, Reply};
+use crate::message::{Allow, MediaType, RefusalForm, Reply};
 use std::alloc::{AllocError, Global};
 
-/// The bytes of a reply, after which the connection closes or not. A 503 without a body gets the body that says that
-/// there was no memory.
+/// The bytes of a reply, after which the connection closes or not. A 503 without a body gets the body that says, in the
+/// form of the port's refusals, that there was no memory.
 #[tactic(auto, unfolding(crate::specs::Reply::reply_text))]
-pub fn reply_bytes(alloc: Global, reply: &Reply, close: bool) -> Result<Vec<u8>, AllocError>
-    ensures { IfOk result (λ v. v.items ≡ reply_text false close (response_of reply.now)) }
+pub fn reply_bytes(
+    alloc: Global,
+    form: RefusalForm,
+    reply: &Reply,
+    close: bool,
+) -> Result<Vec<u8>, AllocError>
+    ensures { IfOk result (λ v. v.items ≡ reply_text form false close (response_of reply.now)) }
 {
     if is_for_no_memory(reply) {
-        Vec::from_slice(alloc, no_memory_bytes(close, false))
+        Vec::from_slice(alloc, no_memory_bytes(form, close, false))
     } else {
         plain_bytes(alloc, reply, close, false)
     }
@@ -27,9 +32,19 @@ pub(crate) fn is_for_no_memory(reply: &Reply) -> bool
 }
 
 /// The bytes of the reply that says that there was no memory. They take none.
+pub(crate) fn no_memory_bytes(form: RefusalForm, close: bool, bodiless: bool) -> &'static [u8]
+    ensures { result.now ≡ plain_text bodiless close (out_of_memory form) }
+{
+    match form {
+        RefusalForm::Status => no_memory_status(close, bodiless),
+        RefusalForm::Json => no_memory_json(close, bodiless),
+    }
+}
+
+/// The bytes of that reply with a `google.rpc.Status`.
 #[tactic(auto, unfolding(crate::specs::Reply::head_text_of))]
-pub(crate) fn no_memory_bytes(close: bool, bodiless: bool) -> &'static [u8]
-    ensures { result.now ≡ plain_text bodiless close out_of_memory }
+fn no_memory_status(close: bool, bodiless: bool) -> &'static [u8]
+    ensures { result.now ≡ plain_text bodiless close (out_of_memory RefusalForm.Status) }
 {
     match (close, bodiless) {
         (false, false) =>
@@ -44,6 +59,23 @@ Connection: close\r\nContent-Length: 15\r\n\r\n\x12\x0dout of memory",
         (true, true) =>
             b"HTTP/1.1 503 Service Unavailable\r\nContent-Type: application/x-protobuf\r\n\
 Connection: close\r\nContent-Length: 15\r\n\r\n",
+    }
+}
+
+/// The bytes of that reply as JSON.
+#[tactic(auto, unfolding(crate::specs::Reply::head_text_of))]
+fn no_memory_json(close: bool, bodiless: bool) -> &'static [u8]
+    ensures { result.now ≡ plain_text bodiless close (out_of_memory RefusalForm.Json) }
+{
+    match (close, bodiless) {
+        (false, false) => b"HTTP/1.1 503 Service Unavailable\r\nContent-Type: application/json\r\n\
+Content-Length: 25\r\n\r\n{\"error\":\"out of memory\"}",
+        (false, true) => b"HTTP/1.1 503 Service Unavailable\r\nContent-Type: application/json\r\n\
+Content-Length: 25\r\n\r\n",
+        (true, false) => b"HTTP/1.1 503 Service Unavailable\r\nContent-Type: application/json\r\n\
+Connection: close\r\nContent-Length: 25\r\n\r\n{\"error\":\"out of memory\"}",
+        (true, true) => b"HTTP/1.1 503 Service Unavailable\r\nContent-Type: application/json\r\n\
+Connection: close\r\nContent-Length: 25\r\n\r\n",
     }
 }
 
@@ -137,7 +169,7 @@ fn advice(status: u16, allow: Allow) -> &'static [u8]
     ensures { result.now ≡ advice_of status allow }
 {
     match status {
-        401 => b"WWW-Authenticate: Bearer\r\n",
+        401 => b"WWW-Authenticate: Bearer realm=\"nimchaes\"\r\n",
         405 => allow_line(allow),
         429 => b"Retry-After: 1\r\n",
         _ => b"",
@@ -162,13 +194,26 @@ fn closing_line(close: bool) -> &'static [u8]
     if close { b"Connection: close\r\n" } else { b"" }
 }
 
-/// The body of the reply to a bad message.
-pub(crate) fn refusal_body(status: u16) -> &'static [u8]
-    ensures { result.now ≡ status_body (refusal_message status) }
+/// What the content of a refusal in this form is.
+pub(crate) fn refusal_media(form: RefusalForm) -> MediaType
+    ensures { result ≡ refusal_media form }
 {
-    match status {
-        413 => b"\x12\x0ebody too large",
-        431 => b"\x12\x16too many header fields",
-        _ => b"\x12\x0bbad request",
+    match form {
+        RefusalForm::Status => MediaType::Protobuf,
+        RefusalForm::Json => MediaType::Json,
+    }
+}
+
+/// The body of the reply to a bad message.
+pub(crate) fn refusal_body(form: RefusalForm, status: u16) -> &'static [u8]
+    ensures { result.now ≡ refusal_body form (refusal_message status) }
+{
+    match (form, status) {
+        (RefusalForm::Status, 413) => b"\x12\x0ebody too large",
+        (RefusalForm::Status, 431) => b"\x12\x16too many header fields",
+        (RefusalForm::Status, _) => b"\x12\x0bbad request",
+        (RefusalForm::Json, 413) => b"{\"error\":\"body too large\"}",
+        (RefusalForm::Json, 431) => b"{\"error\":\"too many header fields\"}",
+        (RefusalForm::Json, _) => b"{\"error\":\"bad request\"}",
     }
 }

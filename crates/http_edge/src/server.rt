@@ -1,20 +1,20 @@
 //! The loop over messages.
-ghost use Rattle.std.specs.Prelude.{◌≡◌, ◌≢◌, ℕ, ◌+◌, ◌<◌, ◌≤◌, Bool, List, [], ◌++◌, length, map, if◌then◌else◌, IfOk, IfErr, IfSome, OnOk, OnErr, Some, None, true, false, Ok, Err, vec_capacity, is_none};
+ghost use Rattle.std.specs.Prelude.{◌≡◌, ◌≢◌, ℕ, ◌+◌, ◌<◌, ◌≤◌, List, [], ◌++◌, length, map, if◌then◌else◌, IfOk, IfErr, IfSome, OnOk, OnErr, Some, None, true, false, Ok, Err, vec_capacity, is_none};
 ghost use Rattle.httparse.specs.Grammar.{RequestHead};
-ghost use Rattle.http_edge.specs.Talk.{Talk, Talks, Begins, Lacks, head_lines};
+ghost use Rattle.http_edge.specs.Talk.{Converses, Talks, Begins, Lacks, head_lines};
 ghost use Rattle.http_edge.specs.Reply.{refusal_text, reply_text, continue_text, is_for_no_memory};
 ghost use Rattle.http_edge.specs.Message.{Message, Settles, closes, max_fields, max_head, with_body};
 ghost use Rattle.http_edge.specs.Limits.{part_room};
 ghost use Rattle.http_line.specs.Line.{Moves};
 ghost use Rattle.http_edge.specs.Steps.{work, HasFailed};
 ghost use Rattle.http_edge.specs.Seen.{seen, response_of};
-ghost use Rattle.http_edge.specs.Stages.{IsHeadProgress, IsMessageOf, kept_if, Replies, StaysOpen, IsOver, IsCut, RepliesWhole, RepliesUnwritten, BreaksOff};
+ghost use Rattle.http_edge.specs.Stages.{IsHeadProgress, IsMessageOf, kept_if, StaysOpen, IsOver, IsCut, RepliesWhole, RepliesInPart, RepliesUnwritten, BreaksOff};
 ghost use Rattle.http_edge.specs.declared.wire.EdgeFault.TheVariants.{OutOfMemory};
 
 use crate::body::{BodyRead, read_body};
 use crate::head::{BodyKind, Head, HeadProgress, head_at};
-use crate::message::{Allow, Handler, HttpMessage, MediaType, Reply};
-use crate::reply::{is_for_no_memory, no_memory_bytes, plain_bytes, refusal_body};
+use crate::message::{Allow, Handler, HttpMessage, RefusalForm, Reply};
+use crate::reply::{is_for_no_memory, no_memory_bytes, plain_bytes, refusal_body, refusal_media};
 use crate::wire::{EdgeFault, READ_AT_MOST, Room, Watch, fill, send};
 use http_line::Line;
 use std::alloc::{AllocError, Global};
@@ -42,14 +42,12 @@ pub fn serve<T: Threads + Sync, L: Line, H: Handler>(
     buffer: &mut Vec<u8>,
 ) -> Result<(), EdgeFault>
     // The bytes written are the replies to the messages in the bytes read.
-    ensures talk { OnOk result ((read : List ℕ) × (written : List ℕ) × (over : Bool)
-        × Moves L.gives L.takes line.old line.new read written
-        × Talk H.answers handler.old read handler.new written over
-        × (over ≡ false → L.ends line.old < L.ends line.new)) }
+    ensures talk { OnOk result (Converses H.refusals H.answers handler.old handler.new
+        L.gives L.takes L.ends line.old line.new) }
     // After a fault they are a beginning of that, and after want of memory all of it, with a reply that says so.
     ensures fault { IfErr result (λ fault. (read : List ℕ) × (written : List ℕ)
         × Moves L.gives L.takes line.old line.new read written
-        × Begins fault H.answers handler.old read handler.new written) }
+        × Begins H.refusals fault H.answers handler.old read handler.new written) }
     ensures read { result ≡ Err EdgeFault.ReadFailed
         → HasFailed (L.failed line.old) (L.failed line.new) }
     ensures write { result ≡ Err EdgeFault.WriteFailed
@@ -59,7 +57,7 @@ pub fn serve<T: Threads + Sync, L: Line, H: Handler>(
     match converse(rt, alloc, line, handler, buffer) {
         Ok(()) => Ok(()),
         Err(EdgeFault::OutOfMemory) => {
-            send(line, no_memory_bytes(true, false))?;
+            send(line, no_memory_bytes(H::refusals(), true, false))?;
             Err(EdgeFault::OutOfMemory)
         }
         Err(EdgeFault::ReadFailed) => Err(EdgeFault::ReadFailed),
@@ -67,7 +65,8 @@ pub fn serve<T: Threads + Sync, L: Line, H: Handler>(
     }
 }
 
-/// The same, where nothing is said of want of memory.
+/// Reads messages and writes the handler's replies, until the connection is to close, a message is bad, or the input
+/// ends. Where memory is refused, nothing is said of that.
 fn converse<T: Threads + Sync, L: Line, H: Handler>(
     rt: &T,
     alloc: Global,
@@ -76,15 +75,14 @@ fn converse<T: Threads + Sync, L: Line, H: Handler>(
     buffer: &mut Vec<u8>,
 ) -> Result<(), EdgeFault>
     requires { buffer.old.items ≡ [] }
-    ensures talk { OnOk result ((read : List ℕ) × (written : List ℕ) × (over : Bool)
-        × Moves L.gives L.takes line.old line.new read written
-        × Talk H.answers handler.old read handler.new written over
-        × (over ≡ false → L.ends line.old < L.ends line.new)) }
+    ensures talk { OnOk result (Converses H.refusals H.answers handler.old handler.new
+        L.gives L.takes L.ends line.old line.new) }
     ensures broken { IfErr result (λ fault. fault ≢ OutOfMemory
-        → BreaksOff H.answers handler.old handler.new L.gives L.takes line.old line.new) }
+        → BreaksOff H.refusals H.answers handler.old handler.new L.gives L.takes
+        line.old line.new) }
     ensures short { result ≡ Err OutOfMemory → (read : List ℕ) × (written : List ℕ)
         × Moves L.gives L.takes line.old line.new read written
-        × Talks H.answers (Lacks H.answers) handler.old read handler.new written }
+        × Talks H.refusals H.answers (Lacks H.answers) handler.old read handler.new written }
     ensures unfailed { result ≡ Err EdgeFault.OutOfMemory → L.failed line.new ≡ L.failed line.old }
     ensures read { result ≡ Err EdgeFault.ReadFailed
         → HasFailed (L.failed line.old) (L.failed line.new) }
@@ -105,14 +103,14 @@ fn exchange<T: Threads + Sync, L: Line, H: Handler>(
     room: &mut Room,
     buffer: &mut Vec<u8>,
 ) -> Result<bool, EdgeFault>
-    ensures stays_open { result ≡ Ok true → StaysOpen H.answers handler.old handler.new
-        L.gives L.takes line.old line.new buffer.old.items
+    ensures stays_open { result ≡ Ok true → StaysOpen H.refusals H.answers handler.old
+        handler.new L.gives L.takes line.old line.new buffer.old.items
         buffer.new.items }
-    ensures closes { result ≡ Ok false → IsOver H.answers handler.old handler.new
-        L.gives L.takes line.old line.new (L.ends line.old < L.ends
+    ensures closes { result ≡ Ok false → IsOver H.refusals H.answers handler.old
+        handler.new L.gives L.takes line.old line.new (L.ends line.old < L.ends
         line.new) buffer.old.items }
-    ensures on_error { IfErr result (λ fault. IsCut fault H.answers handler.old handler.new
-        L.gives L.takes line.old line.new buffer.old.items) }
+    ensures on_error { IfErr result (λ fault. IsCut H.refusals fault H.answers handler.old
+        handler.new L.gives L.takes line.old line.new buffer.old.items) }
     ensures work { result ≡ Ok true → work (L.reads_left line.new) buffer.new.items < work
         (L.reads_left line.old) buffer.old.items }
     ensures ends { L.ends line.old ≤ L.ends line.new }
@@ -126,11 +124,11 @@ fn exchange<T: Threads + Sync, L: Line, H: Handler>(
     match read_head(alloc, line, room, buffer)? {
         HeadProgress::More => Ok(false),
         HeadProgress::TooMany => {
-            refuse(alloc, line, 431, false)?;
+            refuse(alloc, line, H::refusals(), 431, false)?;
             Ok(false)
         }
         HeadProgress::Refuse { status, bodiless } => {
-            refuse(alloc, line, status, bodiless)?;
+            refuse(alloc, line, H::refusals(), status, bodiless)?;
             Ok(false)
         }
         HeadProgress::Whole(head) => {
@@ -219,13 +217,14 @@ fn look<L: Line>(
 fn refuse<L: Line>(
     alloc: Global,
     line: &mut L,
+    form: RefusalForm,
     status: u16,
     bodiless: bool,
 ) -> Result<(), EdgeFault>
     ensures on_success { OnOk result (Moves L.gives L.takes line.old line.new []
-        (refusal_text bodiless status)) }
+        (refusal_text form bodiless status)) }
     ensures on_error { OnErr result ((front : List ℕ) × (missing : List ℕ)
-        × (refusal_text bodiless status ≡ front ++ missing)
+        × (refusal_text form bodiless status ≡ front ++ missing)
         × Moves L.gives L.takes line.old line.new [] front) }
     ensures quiet { result ≡ Err OutOfMemory → Moves L.gives L.takes line.old line.new [] [] }
     ensures end { L.ends line.new ≡ L.ends line.old }
@@ -238,11 +237,11 @@ fn refuse<L: Line>(
 {
     let reply = Reply {
         status,
-        media: MediaType::Protobuf,
+        media: refusal_media(form),
         allow: Allow::Post,
-        body: Vec::from_slice(alloc, refusal_body(status))?,
+        body: Vec::from_slice(alloc, refusal_body(form, status))?,
     };
-    write_reply(alloc, line, &reply, true, bodiless)
+    write_reply(alloc, line, form, &reply, true, bodiless)
 }
 
 /// Reads the body of a head's message, and answers it.
@@ -256,14 +255,14 @@ fn serve_message<T: Threads + Sync, L: Line, H: Handler>(
     head: Head,
 ) -> Result<bool, EdgeFault>
     requires { IsHeadProgress buffer.old.items (HeadProgress.Whole head) }
-    ensures stays_open { result ≡ Ok true → StaysOpen H.answers handler.old handler.new
-        L.gives L.takes line.old line.new buffer.old.items
+    ensures stays_open { result ≡ Ok true → StaysOpen H.refusals H.answers handler.old
+        handler.new L.gives L.takes line.old line.new buffer.old.items
         buffer.new.items }
-    ensures closes { result ≡ Ok false → IsOver H.answers handler.old handler.new
-        L.gives L.takes line.old line.new (L.ends line.old < L.ends
+    ensures closes { result ≡ Ok false → IsOver H.refusals H.answers handler.old
+        handler.new L.gives L.takes line.old line.new (L.ends line.old < L.ends
         line.new) buffer.old.items }
-    ensures on_error { IfErr result (λ fault. IsCut fault H.answers handler.old handler.new
-        L.gives L.takes line.old line.new buffer.old.items) }
+    ensures on_error { IfErr result (λ fault. IsCut H.refusals fault H.answers handler.old
+        handler.new L.gives L.takes line.old line.new buffer.old.items) }
     ensures work { result ≡ Ok true → work (L.reads_left line.new) buffer.new.items < work
         (L.reads_left line.old) buffer.old.items }
     ensures ends { L.ends line.old ≤ L.ends line.new }
@@ -287,11 +286,11 @@ fn serve_message<T: Threads + Sync, L: Line, H: Handler>(
     )? {
         BodyRead::Ended => Ok(false),
         BodyRead::TooLong => {
-            refuse(alloc, line, 413, head.bodiless)?;
+            refuse(alloc, line, H::refusals(), 413, head.bodiless)?;
             Ok(false)
         }
         BodyRead::Bad => {
-            refuse(alloc, line, 400, head.bodiless)?;
+            refuse(alloc, line, H::refusals(), 400, head.bodiless)?;
             Ok(false)
         }
         BodyRead::Whole(body) => {
@@ -360,15 +359,16 @@ fn handle_message<T: Threads + Sync, L: Line, H: Handler>(
         (response_of reply)) }
     ensures on_success { IfOk result (λ goes. (m : Message)
         → IsMessageOf head kept.items (is_none settled) m
-        → RepliesWhole H.answers handler.old handler.new L.gives L.takes line.old line.new m
-        goes) }
+        → RepliesWhole H.refusals H.answers handler.old handler.new L.gives L.takes line.old
+        line.new m goes) }
     ensures on_error { OnErr result ((m : Message)
-        → IsMessageOf head kept.items (is_none settled) m → (text : List ℕ)
-        × Moves L.gives L.takes line.old line.new [] text
-        × (missing : List ℕ) × Replies H.answers handler.old handler.new m text missing) }
+        → IsMessageOf head kept.items (is_none settled) m
+        → RepliesInPart H.refusals H.answers handler.old handler.new L.gives L.takes line.old
+        line.new m) }
     ensures short { result ≡ Err OutOfMemory → (m : Message)
         → IsMessageOf head kept.items (is_none settled) m
-        → RepliesUnwritten H.answers handler.old handler.new L.gives L.takes line.old line.new m }
+        → RepliesUnwritten H.refusals H.answers handler.old handler.new L.gives L.takes line.old
+        line.new m }
     ensures end { L.ends line.new ≡ L.ends line.old }
     ensures reads { L.reads_left line.new ≡ L.reads_left line.old }
     ensures kept { OnOk result (L.failed line.new ≡ L.failed line.old) }
@@ -380,7 +380,7 @@ fn handle_message<T: Threads + Sync, L: Line, H: Handler>(
     let closes = head.closes;
     let bodiless = head.bodiless;
     let reply = reply_to(rt, handler, message_of(head, kept), settled);
-    write_reply(alloc, line, &reply, closes, bodiless)?;
+    write_reply(alloc, line, H::refusals(), &reply, closes, bodiless)?;
     Ok(!closes)
 }
 
@@ -407,14 +407,15 @@ fn reply_to<T: Threads + Sync, H: Handler>(
 fn write_reply<L: Line>(
     alloc: Global,
     line: &mut L,
+    form: RefusalForm,
     reply: &Reply,
     close: bool,
     bodiless: bool,
 ) -> Result<(), EdgeFault>
     ensures on_success { OnOk result (Moves L.gives L.takes line.old line.new []
-        (reply_text bodiless close (response_of reply.now))) }
+        (reply_text form bodiless close (response_of reply.now))) }
     ensures on_error { OnErr result ((front : List ℕ) × (missing : List ℕ)
-        × (reply_text bodiless close (response_of reply.now) ≡ front ++ missing)
+        × (reply_text form bodiless close (response_of reply.now) ≡ front ++ missing)
         × Moves L.gives L.takes line.old line.new [] front) }
     ensures quiet { result ≡ Err OutOfMemory → Moves L.gives L.takes line.old line.new [] [] }
     ensures memory { result ≡ Err OutOfMemory → is_for_no_memory (response_of reply.now) ≡ false }
@@ -427,7 +428,7 @@ fn write_reply<L: Line>(
     ensures no_read { result ≢ Err EdgeFault.ReadFailed }
 {
     if is_for_no_memory(reply) {
-        return send(line, no_memory_bytes(close, bodiless));
+        return send(line, no_memory_bytes(form, close, bodiless));
     }
     let bytes = plain_bytes(alloc, reply, close, bodiless)?;
     send(line, &bytes)

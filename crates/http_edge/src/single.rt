@@ -16,7 +16,7 @@ pub(crate) enum Single<'a> {
 }
 
 impl<'a> Single<'a> {
-    /// The same with one field more, whose value counts where it has the wanted name.
+    /// What stands under the wanted name with one field more, whose value counts where it has that name, in any case.
     pub(crate) fn and(self, wanted: &[u8], name: &[u8], value: &'a [u8]) -> Single<'a>
         ensures { (before : List (List ℕ × List ℕ)) → single_of self.entry ≡ field wanted.now before
             → single_of result ≡ field wanted.now (before ++ (name.now, value.now) ∷ []) }
@@ -28,7 +28,7 @@ impl<'a> Single<'a> {
         }
     }
 
-    /// The same with one value more.
+    /// What stands there with one value more.
     fn add(self, value: &'a [u8]) -> Single<'a>
         ensures { (before : List (List ℕ)) → single_of self.entry ≡ single before
             → single_of result ≡ single (before ++ value.now ∷ []) }

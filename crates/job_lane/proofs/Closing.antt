@@ -43,9 +43,6 @@ taken_first lane seats root is ours = record {
 pub taken_lane : (lane : LaneName) (seats old rest : List SeatLists) (s : SeatLists) (root : SeatView) (n : ℕ) → IsTakenIn lane seats old root n → old ≡ rest ++ s ∷ [] → s.lane ≡ lane
 taken_lane lane seats old rest s root n h is = All-head (λ t. t.lane ≡ lane) s [] (all_back (λ t. t.lane ≡ lane) rest (s ∷ []) (subst (AreOf lane) is h.ours))
 
-pub taken_fits : (lane : LaneName) (seats rest : List SeatLists) (root : SeatView) (n : ℕ) → IsTakenIn lane seats rest root n → length seats < 2 ^ 64 → n ≤ 2 ^ 126
-taken_fits lane seats rest root n h lt = omega (arith, h.small, ap length h.split, length-append rest h.done)
-
 pub taken_next : (lane : LaneName) (seats old rest : List SeatLists) (s : SeatLists) (root root' : SeatView) (n m : ℕ) → IsTakenIn lane seats old root n → old ≡ rest ++ s ∷ []
     → root' ≡ with_seat root s → (m ≡ length s.pushes) × (m ≤ 2 ^ 62) → AreRising s.pushes × AreRising s.pops → IsTakenIn lane seats rest root' (n + m)
 taken_next lane seats old rest s root root' n m h is now count rising = record {

@@ -29,10 +29,6 @@ pub popped_keeps : (n : ℕ) (result : Option Job) (v w : SeatView) → Told res
 popped_keeps n None v w told is = subst (IsSeatView n) (sym told.0) is
 popped_keeps n (Some job) v w told is = popped n v w job told is
 
-pub popped_stays : (result : Option Job) (v w : SeatView) → Told result v w → (w.whole ≡ v.whole) × (w.pushes ≡ v.pushes)
-popped_stays None v w told = (ap (λ (y : SeatView). y.whole) told.0, ap (λ (y : SeatView). y.pushes) told.0)
-popped_stays (Some job) v w told = (ap (λ (y : SeatView). y.whole) told.2, ap (λ (y : SeatView). y.pushes) told.2)
-
 pub popped_tells : (result : Option Job) (v w : SeatView) → Told result v w → IfSome result (λ job. (n : ℕ) × AreBelow n v.pops × (w.pops ≡ v.pops ++ (n, job) ∷ []))
 popped_tells None v w told = tt
 popped_tells (Some job) v w told = (told.0, told.1, ap (λ (y : SeatView). y.pops) told.2)

@@ -2,7 +2,7 @@
 use Rattle.std.proofs.Common.{◌≡◌, ℕ, zero, suc, ◌+◌, ◌<◌, List, [], ◌∷◌, ◌++◌, length, get_or, map, Option, Some, None, sum_by, flat_map, refl, sym, ap, ◌∙◌, subst, arith, length-append, append_assoc}
 use Rattle.std.specs.Prelude.{slice_get, reverse}
 use Rattle.std.specs.List.{cons_option}
-use Rattle.std.proofs.lemmas.List.{append-nil, length-map, reverse-reverse, reverse-append}
+use Rattle.std.proofs.lemmas.List.{append-nil, length-map, reverse-append}
 use Rattle.std.proofs.lemmas.List.Sums.{sum_by-cons}
 use Rattle.atomic_table.specs.Seated.{TableId}
 use Rattle.log_positions.specs.Numbered.{AreRising, AreAllOf}
@@ -29,10 +29,6 @@ module _ {M S O : Type 0} where
   pub taking_from : (all seats : List (SeatState M S O)) (old : List (KeeperState M S O)) (ts : List TableId) → seats ≡ all → keeper_slots old ≡ ts → slots_of all ≡ ts → IsTaking all seats old old
   taking_from all seats old ts is e f =
       subst (λ l. IsTaking all l old old) (sym is) (zipping_first keeper_with all old (omega (arith, map_long keeper_slot old ts e, map_long seat_slot all ts f)))
-
-  pub next_keeper : (all was rest : List (SeatState M S O)) (s : SeatState M S O) (old now : List (KeeperState M S O)) (ts : List TableId) (n : ℕ) (k : KeeperState M S O) (t : TableId)
-      → IsTaking all was old now → was ≡ rest ++ s ∷ [] → n ≡ length rest → keeper_slots old ≡ ts → k ≡ get_or now n k → t ≡ get_or ts n t → k.slot ≡ t
-  next_keeper all was rest s old now ts n k t h is e eq at at' = map_at keeper_slot old ts n k t eq (zipping_old keeper_with all was rest s old now n k h is e at) at'
 
   pub next_seat : (all was rest : List (SeatState M S O)) (s : SeatState M S O) (old now : List (KeeperState M S O)) (ts : List TableId) (n : ℕ) (t : TableId)
       → IsTaking all was old now → was ≡ rest ++ s ∷ [] → n ≡ length rest → slots_of all ≡ ts → t ≡ get_or ts n t → s.slot ≡ t
@@ -245,12 +241,6 @@ module _ {M S O : Type 0} (steps : M → S → O → M → Type 0) (loses : M �
 
   none_left : (ks : List (KeeperState M S O)) (ts : List TableId) → keeper_slots ks ≡ ts → ts ≡ [] → ks ≡ []
   none_left ks ts e none = empty ks (omega (arith, map_long keeper_slot ks ts e, ap length none))
-
-  pub ended_all : (all rest : List (KeeperState M S O)) (made final : List (Standing M S O)) (ts : List TableId) → IsEnding all rest made → keeper_slots rest ≡ ts → ts ≡ [] → final ≡ reverse made → AreWholeRuns steps loses all final
-  ended_all all rest made final ts h e none is =
-      let whole : h.done ≡ all = ap (λ l. l ++ h.done) (sym (none_left rest ts e none)) ∙ sym h.all_is in
-      let given : h.ended ≡ final = sym (is ∙ ap reverse h.made_is ∙ reverse-reverse h.ended) in
-      subst (λ l. AreWholeRuns steps loses all l) given (subst (λ l. AreWholeRuns steps loses l h.ended) whole h.runs)
 
   whole_long : (ks : List (KeeperState M S O)) (ss : List (Standing M S O)) → AreWholeRuns steps loses ks ss → length ss ≡ length ks
   whole_long [] [] runs = refl

@@ -9,9 +9,6 @@ use Rattle.machine_hub.specs.Seats.{IsWholeRun}
 pub has_parts : (parts seats taken : ℕ) → parts ≡ all_parts - seats + taken → seats < 2 ^ 64 → 0 < parts
 has_parts parts seats taken is lt = omega arith
 
-pub has_all : (parts seats taken : ℕ) → parts ≡ all_parts - seats + taken → seats < 2 ^ 64 → taken ≡ seats → parts ≡ all_parts
-has_all parts seats taken is lt all = omega arith
-
 module _ {M S O : Type 0} (steps : M → S → O → M → Type 0) (loses : M → M → Type 0) where
   pub whole_run : (slot : TableId) (v w : SlotView M S O) (s : Standing M S O) (seats taken : ℕ) → v.parts ≡ all_parts → Taken steps loses v s w
       → IsWholeRun steps loses (record { slot = slot; home = v.home; seats = seats; taken = taken; calls = v.calls; late = v.late; bare = v.bare; refused = v.refused }) s

@@ -11,11 +11,6 @@ module _ {X : Type 0} where
   get_is (y ∷ xs) zero x lt e = ap Some (sym e)
   get_is (y ∷ xs) (suc k) x lt e = get_is xs k x (omega arith) e
 
-  pub get_within : (xs : List X) (k : ℕ) (x : X) → slice_get xs k ≡ Some x → k < length xs
-  get_within [] k x e = absurd (cc)
-  get_within (y ∷ xs) zero x e = omega arith
-  get_within (y ∷ xs) (suc k) x e = omega (arith, get_within xs k x e)
-
   get_front : (xs ys : List X) (x : X) → slice_get (xs ++ x ∷ ys) (length xs) ≡ Some x
   get_front [] ys x = refl
   get_front (y ∷ xs) ys x = get_front xs ys x
@@ -159,9 +154,6 @@ module _ {A B : Type 0} (f : A → B → A) where
           long = e.long;
         };
       }
-
-  pub zipping_within : (all was rest : List B) (b : B) (old now : List A) (n : ℕ) → IsZipping all was old now → was ≡ rest ++ b ∷ [] → n ≡ length rest → n < length now
-  zipping_within all was rest b old now n h is e = let x = zipping_next all was rest b old now h is in omega (arith, x.within, e)
 
   beside_is : (all was rest : List B) (b : B) (old now : List A) (n : ℕ) (a : A) → (h : IsZipping all was old now) → (is : was ≡ rest ++ b ∷ []) → n ≡ length rest → a ≡ get_or now n a
       → (zipping_next all was rest b old now h is).beside ≡ a

@@ -105,9 +105,6 @@ module _ {M S O : Type 0} where
       let k : map (λ (k : KeeperState M S O). k.slot) ks ≡ ts = ap (λ (x : HubKeeping M). x.slots) (opened_keepers n ms ts ks cs o) in
       omega (arith, ap length k, length-map ks (λ (k : KeeperState M S O). k.slot), opened_long n ms ts ks cs o)
 
-  pub opened_callers : (n : ℕ) (ms : List (Standing M S O)) (ts : List TableId) (ks : List (KeeperState M S O)) (cs : List (List (SeatState M S O))) → IsOpen n ms ts ks cs → cs ≡ replicate n (new_caller ts (homes_of ms))
-  opened_callers n ms ts ks cs o = o.callers_are ∙ ap (λ l. replicate n (new_caller ts l)) o.homes_are
-
   pub opened_mine : (n : ℕ) (ms : List (Standing M S O)) (ts : List TableId) (ks : List (KeeperState M S O)) (cs : List (List (SeatState M S O))) → IsOpen n ms ts ks cs → AreCallersOf ts cs
   opened_mine n ms ts ks cs o =
       let make : TableId → Home M → SeatState M S O = new_seat in

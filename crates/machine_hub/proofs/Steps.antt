@@ -1,5 +1,5 @@
 -- A caller's call at one shard of a hub.
-use Rattle.std.proofs.Common.{◌≡◌, ℕ, ◌<◌, List, length, get_or, set, Bool, true, false, Option, Some, None, sym, ap, ◌∙◌, subst, arith}
+use Rattle.std.proofs.Common.{◌≡◌, ℕ, ◌<◌, List, length, get_or, set, Bool, true, false, Option, Some, None, ap, ◌∙◌, subst, arith}
 use Rattle.std.specs.Prelude.{Result, Ok, Err, OnErr, option_map, slice_get}
 use Rattle.atomic_table.specs.Seated.{TableId}
 use Rattle.machine_hub.specs.declared.entry.Entry.{Entry}
@@ -7,7 +7,7 @@ use Rattle.machine_hub.specs.Seats.{SeatState, seat_after, seat_refused, IsStepO
 use Rattle.machine_hub.specs.declared.receipt.Receipt.{Receipt}
 use Rattle.machine_hub.specs.declared.told.Told.{Told}
 use Rattle.machine_hub.specs.Hub.{receipt_at, slots_of, IsRefusedOn, IsCallOn, IsToldOn}
-use Rattle.machine_hub.proofs.Lists.{get_is, map_at, map_long, map_set}
+use Rattle.machine_hub.proofs.Lists.{get_is, map_long, map_set}
 
 pub on_err : {A E : Type 0} (r : Result A E) (P : Type 0) → P → OnErr r P
 on_err (Ok a) P p = tt
@@ -26,10 +26,6 @@ module _ {M S O : Type 0} where
   -- the seat at a shard, and its slot
   pub seat_at : (ss me : List (SeatState M S O)) (self : List TableId) (k : ℕ) (s : SeatState M S O) → ss ≡ me → slots_of me ≡ self → k < length self → s ≡ get_or ss k s → slice_get ss k ≡ Some s
   seat_at ss me self k s is e lt got = get_is ss k s (omega (arith, lt, ap length is, map_long slot_in me self e)) got
-
-  pub same_slot : (ss me : List (SeatState M S O)) (self ts : List TableId) (k : ℕ) (s : SeatState M S O) (t : TableId) → ss ≡ me → ts ≡ self → slots_of me ≡ self → k < length self → s ≡ get_or ss k s → t ≡ get_or ts k t → s.slot ≡ t
-  same_slot ss me self ts k s t is at e lt got got' =
-      map_at slot_in ss ts k s t (ap slots_of is ∙ e ∙ sym at) (seat_at ss me self k s is e lt got) got'
 
   pub still_mine : (ss me : List (SeatState M S O)) (self : List TableId) (k : ℕ) (s w : SeatState M S O) → ss ≡ me → slots_of me ≡ self → k < length self → s ≡ get_or ss k s → w.slot ≡ s.slot → slots_of (set ss k w) ≡ self
   still_mine ss me self k s w is e lt got same = map_set slot_in ss k s w (seat_at ss me self k s is e lt got) same ∙ ap slots_of is ∙ e

@@ -151,12 +151,6 @@ module _ {A : Type 0} (step : ℕ → Step A) (none : A) (default : Entry → Bo
     so_far = one_put step none default Above laws (room - 1) (101 - room) text g.put from left rest low high field ((g.put ++ before from left) ++ put) put refl alike le fits found g.so_far;
   }
 
-  -- nothing in place of a default
-  pub going_dropped : (copy longer from left rest : List ℕ) (low high : ℕ) (field : Entry) → longer ≡ copy ++ before from left → default field ≡ true → low < field.number → low ≤ high → field.number ≤ high → next_at (101 - room) left ≡ Ok (Some (field, rest))
-      → Going step none Above room text old copy from left low → Going step none Above room text old longer rest rest high
-  going_dropped copy longer from left rest low high field is default_is above le fits found g =
-      going_put copy longer longer from left rest low high field [] is (sym (append-nil longer)) (default_alike step none default Above laws (room - 1) (101 - room) low field default_is above) le fits found g
-
   -- with what isn't copied yet
   pub going_same : (copy from left : List ℕ) (most : ℕ) → 0 < room → (g : Going step none Above room text old copy from left most) → read_with step room none text ≡ read_with step room none (g.put ++ from)
   going_same copy from left most some g =

@@ -110,7 +110,7 @@ mixed_at room c s b n (Bytes bs) spelled is =
     rw (e1, e2, e3, e4, e5, e9, e11, e13, e15, last) refl
 mixed_at room c s b n (Group bs) spelled is = rw is refl
 
-mixed : (room : ℕ) (c : ℕ → Bool) (s b : SpanData) (e : Entry) (spelled : List ℕ) → c (place_of e) ≡ true → span_step room (mix c s b) e spelled ≡ (span_step room s e spelled >>= λ a. Ok (mix c a b))
+pub mixed : (room : ℕ) (c : ℕ → Bool) (s b : SpanData) (e : Entry) (spelled : List ℕ) → c (place_of e) ≡ true → span_step room (mix c s b) e spelled ≡ (span_step room s e spelled >>= λ a. Ok (mix c a b))
 mixed room c s b e spelled is = mixed_at room c s b e.number e.value spelled is
 
 -- where it can be taken

@@ -1,6 +1,5 @@
 -- A text's fields are found place by place.
-use Rattle.std.proofs.Common.{◌≡◌, ◌≢◌, ◌==◌, ℕ, zero, suc, ◌+◌, ◌-◌, ◌≤◌, false, arith, List, [], ◌∷◌, ◌++◌, length, length-append, set, slice_get, slice_range, replicate, Some, Ok, refl, sym, ap, subst, ◌∙◌, append_assoc, append-nil}
-use Rattle.std.proofs.Math.Seq.{take-append_seam, drop-append_seam}
+use Rattle.std.proofs.Common.{◌≡◌, ◌≢◌, ◌==◌, ℕ, zero, suc, ◌+◌, false, arith, List, [], ◌∷◌, ◌++◌, length, length-append, set, slice_get, replicate, Some, Ok, refl, sym, ap, subst, ◌∙◌, append_assoc, append-nil}
 use Rattle.std.proofs.lemmas.Bool.{eqb-true}
 use Rattle.std.proofs.lemmas.Bool.Decides.{nat_tests}
 use Rattle.pb_wire.specs.Grammar.{Entry, IsField}
@@ -145,29 +144,6 @@ pub all_found : (d : ℕ) (text left : List ℕ) (runs : List Run) → left ≡ 
 all_found d text left runs none f =
     let whole : f.gone ≡ text = sym (f.parts ∙ ap (λ (t : List ℕ). f.gone ++ t) none ∙ append-nil f.gone) in
     subst (λ (t : List ℕ). AllStand d t runs) whole f.so_far
-
--- ---- what a run has
-
-pub in_text : {d place start end : ℕ} {text : List ℕ} → SideBySide d place text start end → (start ≤ end) × (end ≤ length text)
-in_text {text = text} s =
-    let whole : length text ≡ length s.before + (length s.fields + length s.behind) = ap (λ (t : List ℕ). length t) s.parts ∙ length-append s.before (s.fields ++ s.behind) ∙ ap (λ (n : ℕ). length s.before + n) (length-append s.fields s.behind) in
-    let a = s.starts in
-    let b = s.ends in
-    (omega arith, omega arith)
-
-slice_is : {d place start end : ℕ} {text : List ℕ} → (s : SideBySide d place text start end) → slice_range text start end ≡ s.fields
-slice_is {start = start} {end = end} {text = text} s =
-    let long : end - start ≡ length s.fields = (let a = s.starts in let b = s.ends in omega arith) in
-    rw (s.parts, long, s.starts, drop-append_seam s.before (s.fields ++ s.behind)) (take-append_seam s.fields s.behind)
-
-pub run_put : (d place start end : ℕ) (text old new : List ℕ) → SideBySide d place text start end → new ≡ old ++ slice_range text start end → WithPlaces d place (suc place) text old new
-run_put d place start end text old new s copied = record {
-  pieces = s.all.pieces;
-  are = s.all.are;
-  put = s.all.put;
-  chosen = s.all.chosen;
-  copied = copied ∙ ap (λ (t : List ℕ). old ++ t) (slice_is s ∙ s.all.copied);
-}
 
 -- ---- the fields of one place, apart
 

@@ -13,7 +13,6 @@ use Rattle.otlp_read.specs.Walk.{Piece, Pieces, no_pieces, more_pieces, before, 
 use Rattle.otlp_read.proofs.Laws.{begins_at, walk_pieces}
 use Rattle.otlp_read.proofs.Opened.{opened}
 use Rattle.otlp_read.proofs.Walks.{before_rest}
-use Rattle.otlp_canonical.specs.Canonical.{CanonicalSpan, CanonicalCopy}
 use Rattle.otlp_canonical.specs.Order.{place_of, from, between, WithPlaces}
 use Rattle.otlp_canonical.proofs.Ordered.{next_part, from_first, from_last}
 
@@ -165,11 +164,3 @@ sorted_read room low text copy some lt p span made =
     let copied : fold_fields step no_span (p.sorted ++ from low p.pieces) ≡ Ok span =
     ap (fold_fields step no_span) all ∙ sym (walk_pieces step no_span p.copied) ∙ sym (opened span_step room no_span copy some) ∙ made in
     opened span_step room no_span text some ∙ walk_pieces step no_span p.are ∙ p.same (room - 1) no_span span copied
-
--- a copy that is canonical
-pub copy_canonical : (room : ℕ) (text copy : List ℕ) → ((span : SpanData) → read_with span_step room no_span copy ≡ Ok span → read_with span_step room no_span text ≡ Ok span) → CanonicalSpan room copy → CanonicalCopy room text copy
-copy_canonical room text copy sorted c = record { canonical = c; same = sorted c.value c.read ∙ sym c.read }
-
--- a copy of it that is
-pub copy_of_copy : (room : ℕ) (text copy bare : List ℕ) → ((span : SpanData) → read_with span_step room no_span copy ≡ Ok span → read_with span_step room no_span text ≡ Ok span) → CanonicalCopy room copy bare → CanonicalCopy room text bare
-copy_of_copy room text copy bare sorted c = copy_canonical room text bare (λ span made. sorted span (c.same ∙ made)) c.canonical

@@ -2,11 +2,12 @@
 //! Buffers encoding allows that, and some clients do it: for fields that they always have in hand, such as the parent
 //! of a span that has none, and for messages that they write before they know how long these are.
 
-ghost use Rattle.std.specs.Prelude.{◌≡◌, ◌<◌, ℕ, true, IfOk, IfSome};
+ghost use Rattle.std.specs.Prelude.{◌≡◌, ◌==◌, ◌&&◌, ◌<◌, ℕ, true, [], ◌++◌, IfOk, IfSome};
 ghost use Rattle.pb_wire.specs.Grammar.{entry};
 ghost use Rattle.otlp_canonical.specs.Canonical.{CanonicalCopy};
 ghost use Rattle.otlp_canonical.specs.Defaults.{DefaultsAbove, holds_default};
 ghost use Rattle.otlp_canonical.specs.Inner.{PutFor};
+ghost use Rattle.otlp_canonical.specs.Order.{place_of};
 ghost use Rattle.otlp_trace.specs.Defaults.{no_span};
 ghost use Rattle.otlp_read.specs.Value.{span_step};
 ghost use Rattle.otlp_read.specs.Walk.{read_with};
@@ -38,6 +39,7 @@ fn is_default(field: Field<'_>) -> bool
 
 /// How many bytes of the message in a span's field, which takes so many, need not be there: defaults that are written
 /// out, and lengths longer than they have to be. None where the field stays as it is.
+#[inline(always)]
 fn spare_inside(field: Field<'_>, size: usize, room: u32) -> Option<usize> {
     let Value::Bytes(text) = field.value else {
         return None;
@@ -58,6 +60,7 @@ fn spare_inside(field: Field<'_>, size: usize, room: u32) -> Option<usize> {
 
 /// Appends a span's field without so many bytes of its message that need not be there, behind fields of numbers up to
 /// `most`. Tells whether it did: a status that stands again is merged with the one that stands.
+#[inline(always)]
 fn put_inside(
     copy: &mut Vec<u8>,
     field: Field<'_>,
@@ -85,6 +88,7 @@ fn put_inside(
 /// Appends what a span's field is without its default, or without so many bytes of the message that it holds, behind
 /// fields of numbers up to `most`. Tells whether it did: a default may take back what came before it, and behind a
 /// greater number no message is canonical.
+#[inline(always)]
 fn put_bare(
     copy: &mut Vec<u8>,
     field: Field<'_>,
@@ -110,19 +114,49 @@ fn is_late(field: Field<'_>, most: u32) -> bool {
     most == FLAGS && field.number < FLAGS && Span::knows(field)
 }
 
-/// The text without the defaults that stand in it, and with short lengths, or none where it is so already, or where a
-/// default stands behind a field of its own number or a greater one: it may take back what came before. None as well
-/// where what is left can't be canonical, because it isn't fields, or because its flags stand before others.
-fn dropped(alloc: Global, text: &[u8], room: u32) -> Result<Option<Vec<u8>>, AllocError>
+/// Whether the field is a span's flags, and these are moved.
+#[inline(always)]
+fn is_moved(field: Field<'_>, moves_flags: bool) -> bool
+    ensures { result ≡ (place_of (entry field.entry) == 16 && moves_flags) }
+{
+    match field.value {
+        Value::Four(_) => field.number == FLAGS && moves_flags,
+        _ => false,
+    }
+}
+
+/// What isn't copied of a text whose fields have gone by.
+#[derive(Clone, Copy)]
+struct Uncopied<'a> {
+    /// What stands behind all that is copied.
+    from: &'a [u8],
+
+    /// The flags that are moved behind all else; none where they stay.
+    flags: &'a [u8],
+}
+
+/// Appends the text without the defaults that stand in it, and with short lengths, up to the last of these, and tells
+/// what is left to copy. None where a default stands behind a field of its own number or a greater one: it may take
+/// back what came before. None as well where the copy can't be canonical, because the text isn't fields, or because its
+/// flags stand before others and aren't moved, or are and stand twice.
+#[inline(always)]
+fn put_fields<'a>(
+    copy: &mut Vec<u8>,
+    text: &'a [u8],
+    room: u32,
+    moves_flags: bool,
+) -> Result<Option<Uncopied<'a>>, AllocError>
     requires some { 0 < room }
-    ensures { IfOk result (λ found. IfSome found (λ copy.
+    requires none { copy.now.items ≡ [] }
+    ensures { IfOk result (λ found. IfSome found (λ uncopied.
         read_with span_step room no_span text.now
-        ≡ read_with span_step room no_span copy.items)) }
+        ≡ read_with span_step room no_span
+        (copy.new.items ++ (uncopied.from.now ++ uncopied.flags.now)))) }
 {
     let depth = 101u32.saturating_sub(room);
-    let mut copy = Vec::with_capacity(alloc, text.len())?;
     // What isn't copied yet begins here.
     let mut from = text;
+    let mut flags = &text[..0];
     let mut left = text;
     let mut most = 0u32;
     'fields: while !left.is_empty() {
@@ -136,8 +170,8 @@ fn dropped(alloc: Global, text: &[u8], room: u32) -> Result<Option<Vec<u8>>, All
             return Ok(None);
         };
         let spare = spare_inside(field, left.len() - rest.len(), room - 1);
-        let stays = spare.is_none() && !is_default(field);
-        if stays {
+        let moves = is_moved(field, moves_flags);
+        if spare.is_none() && !is_default(field) && !moves {
             if is_late(field, most) {
                 return Ok(None);
             }
@@ -146,18 +180,69 @@ fn dropped(alloc: Global, text: &[u8], room: u32) -> Result<Option<Vec<u8>>, All
             continue;
         }
         copy.extend_from_slice(&from[..from.len() - left.len()])?;
-        if !put_bare(&mut copy, field, spare.unwrap_or(0), most, room - 1)? {
+        if moves && flags.is_empty() {
+            flags = &left[..left.len() - rest.len()];
+        } else if !moves && put_bare(copy, field, spare.unwrap_or(0), most, room - 1)? {
+            most = most.max(field.number);
+        } else {
             return Ok(None);
         }
-        most = most.max(field.number);
         from = rest;
         left = rest;
     }
-    if from.len() == text.len() {
+    Ok(Some(Uncopied { from, flags }))
+}
+
+/// The text as `put_fields` has it, or none where it is so already.
+#[inline(always)]
+fn dropped(
+    alloc: Global,
+    text: &[u8],
+    room: u32,
+    moves_flags: bool,
+) -> Result<Option<Vec<u8>>, AllocError>
+    requires some { 0 < room }
+    ensures { IfOk result (λ found. IfSome found (λ copy.
+        read_with span_step room no_span text.now
+        ≡ read_with span_step room no_span copy.items)) }
+{
+    let mut copy = Vec::with_capacity(alloc, text.len())?;
+    let Some(uncopied) = put_fields(&mut copy, text, room, moves_flags)? else {
+        return Ok(None);
+    };
+    if uncopied.from.len() == text.len() {
         return Ok(None);
     }
-    copy.extend_from_slice(from)?;
+    copy.extend_from_slice(uncopied.from)?;
+    if uncopied.flags.is_empty() {
+        return Ok(Some(copy));
+    }
+    copy.extend_from_slice(uncopied.flags)?;
     Ok(Some(copy))
+}
+
+/// A span's canonical text, where the given text is that but for what `put_fields` leaves out or moves.
+#[inline(always)]
+pub fn bare_copy(
+    alloc: Global,
+    text: &[u8],
+    room: u32,
+    moves_flags: bool,
+) -> Result<Option<Vec<u8>>, AllocError>
+    ensures { IfOk result (λ found. IfSome found (λ copy. CanonicalCopy room text.now
+        copy.items)) }
+{
+    if room == 0 {
+        return Ok(None);
+    }
+    let Some(copy) = dropped(alloc, text, room, moves_flags)? else {
+        return Ok(None);
+    };
+    if is_span_text(copy.as_slice(), room) {
+        Ok(Some(copy))
+    } else {
+        Ok(None)
+    }
 }
 
 /// A span's canonical text, where the given text is that but for defaults that are written out; with room for so many
@@ -175,15 +260,5 @@ pub fn without_defaults(
     ensures { IfOk result (λ found. IfSome found (λ copy. CanonicalCopy room text.now
         copy.items)) }
 {
-    if room == 0 {
-        return Ok(None);
-    }
-    let Some(copy) = dropped(alloc, text, room)? else {
-        return Ok(None);
-    };
-    if is_span_text(copy.as_slice(), room) {
-        Ok(Some(copy))
-    } else {
-        Ok(None)
-    }
+    bare_copy(alloc, text, room, false)
 }

@@ -183,7 +183,8 @@ pub fn some_four(text: &[u8], number: u8) -> Option<&[u8]>
 }
 
 /// What stands behind a tag of these two bytes, where the text begins with it.
-fn behind_two(text: &[u8], first: u8, second: u8) -> Option<&[u8]>
+#[inline(always)]
+pub fn behind_two(text: &[u8], first: u8, second: u8) -> Option<&[u8]>
     ensures parts { IfSome result (λ rest. text.now ≡ first ∷ second ∷ rest.now) }
 {
     let text = behind(text, first)?;

@@ -86,6 +86,7 @@ fn spare_in<M: Inner>(field: Field<'_>, size: usize, room: u32) -> usize {
 
 /// How many bytes of the message need not be there: defaults that are written out, and those that the lengths of
 /// attributes need not have.
+#[inline(always)]
 pub fn spare_size<M: Inner>(text: &[u8], room: u32) -> usize {
     let depth = 101u32.saturating_sub(room);
     let mut spare = 0usize;
@@ -100,6 +101,7 @@ pub fn spare_size<M: Inner>(text: &[u8], room: u32) -> usize {
 
 /// Appends what a field is without its default, or its attribute with short lengths, behind fields of numbers up to
 /// `most`. Tells whether it did: a default may take back what came before it.
+#[inline(always)]
 fn put_field<M: Inner>(
     copy: &mut Vec<u8>,
     field: Field<'_>,
@@ -127,6 +129,7 @@ fn put_field<M: Inner>(
 /// Appends the message without what need not be there, and its first two fields as `turned` has them. Tells whether it
 /// did: it doesn't where a default stands behind a field of its own number or a greater one, and may take back what
 /// came before.
+#[inline(always)]
 fn put_bare<M: Inner>(copy: &mut Vec<u8>, text: &[u8], room: u32) -> Result<bool, AllocError>
     ensures { IfOk result (λ whole. whole ≡ true
         → ReadAlike M.step M.none room text.now copy.old.items copy.new.items) }
@@ -165,6 +168,7 @@ fn put_bare<M: Inner>(copy: &mut Vec<u8>, text: &[u8], room: u32) -> Result<bool
 }
 
 /// Appends a field of this number with the message, without so many bytes that need not be there. Tells whether it did.
+#[inline(always)]
 pub fn put_message<M: Inner>(
     copy: &mut Vec<u8>,
     number: u32,
@@ -243,6 +247,7 @@ impl Inner for Event {
         }
     }
 
+    #[inline(always)]
     fn turned(text: &[u8], depth: u32) -> Option<Turned<'_>> {
         let Ok(Some((name, behind))) = next_field(text, depth) else {
             return None;

@@ -14,6 +14,7 @@
 mod attribute;
 mod defaults;
 mod field;
+mod flags;
 mod inner;
 mod message;
 mod number;

@@ -11,6 +11,7 @@ ghost use Rattle.otlp_read.specs.Value.{span_step};
 ghost use Rattle.otlp_read.specs.Walk.{read_with};
 
 use crate::defaults::without_defaults;
+use crate::flags::{flags_are_early, with_flags_last};
 use crate::text::is_span_text;
 use pb_wire::{Field, Value, next_field};
 use std::alloc::{AllocError, Global};
@@ -196,12 +197,9 @@ fn sorted(alloc: Global, text: &[u8], room: u32) -> Result<Option<OrderedText>, 
     Ok(Some(OrderedText { copy, zero_count }))
 }
 
-/// A span's canonical text, where the given text is that but for the order of its fields, and for defaults that are
-/// written out; with room for so many levels, as in `is_span_text`. Else none, and nothing is said of the text.
-///
-/// What `without_defaults` says of messages inside the span holds here too. The text may have some bytes of room more
-/// than it takes: at most 38 for each default, and 18 for each length.
-pub fn in_order(alloc: Global, text: &[u8], room: u32) -> Result<Option<Vec<u8>>, AllocError>
+/// What `in_order` gives, by the places of all fields.
+#[inline(never)]
+fn sorted_copy(alloc: Global, text: &[u8], room: u32) -> Result<Option<Vec<u8>>, AllocError>
     ensures { IfOk result (λ found. IfSome found (λ copy. CanonicalCopy room text.now
         copy.items)) }
 {
@@ -214,4 +212,22 @@ pub fn in_order(alloc: Global, text: &[u8], room: u32) -> Result<Option<Vec<u8>>
     }
     let found = without_defaults(alloc, copy.as_slice(), room)?;
     Ok(found)
+}
+
+/// A span's canonical text, where the given text is that but for the order of its fields, and for defaults that are
+/// written out; with room for so many levels, as in `is_span_text`. Else none, and nothing is said of the text.
+///
+/// What `without_defaults` says of messages inside the span holds here too. The text may have some bytes of room more
+/// than it takes: at most 38 for each default, and 18 for each length.
+pub fn in_order(alloc: Global, text: &[u8], room: u32) -> Result<Option<Vec<u8>>, AllocError>
+    ensures { IfOk result (λ found. IfSome found (λ copy. CanonicalCopy room text.now
+        copy.items)) }
+{
+    if flags_are_early(text) {
+        let found = with_flags_last(alloc, text, room)?;
+        if found.is_some() {
+            return Ok(found);
+        }
+    }
+    sorted_copy(alloc, text, room)
 }

@@ -1,5 +1,5 @@
 -- Bodies are equal where what they are is.
-use Rattle.std.proofs.Common.{◌≡◌, ℕ, ℤ, pos, negsuc, List, [], ◌∷◌, map, length, get_or, drop, refl, sym, ap, subst, ◌∙◌, Bool, true, false, eqb, arith, suc, ◌<◌, ◌≤◌, ◌+◌, ◌≢◌}
+use Rattle.std.proofs.Common.{◌≡◌, ℕ, ℤ, pos, negsuc, List, [], ◌∷◌, map, length, get_or, drop, refl, sym, ap, subst, ◌∙◌, Bool, true, false, eqb, arith, ◌<◌, ◌≤◌, ◌+◌}
 use Rattle.std.proofs.lemmas.List.{drop_more, drop_all}
 use Rattle.std.proofs.lemmas.Bool.Decides.{nat_tests, Decides-eqb}
 use Rattle.std.specs.Bool.{one_answer}
@@ -72,11 +72,6 @@ same_policy_lists xs ys left r one decides =
 pub after_equal : (x y : ℕ) (more value : Bool) → x ≡ y → value ≡ more → value ≡ (eqb x y && more)
 after_equal x y more value same is = let test : eqb x y ≡ true = grind (arith, nat_tests) in rw (test, is)
 
--- the same where the first test holds
-pub after_true : (first more value : Bool) → first ≡ true → value ≡ more → value ≡ (first && more)
-after_true true more value holds is = is
-after_true false more value holds is = absurd (cc)
-
 -- ---- equal bodies are the same
 
 and_decides : {P Q : Type 0} → (a b : Bool) → Decides a P → Decides b Q → Decides (a && b) (P × Q)
@@ -143,14 +138,6 @@ one_more os ps xs ys i d short long = λ j. pointwise arrival_eq (arrivals_in os
 behind : (first rest : Bool) → rest ≡ false → (first && rest) ≡ false
 behind true rest is = is
 behind false rest is = refl
-
--- lists of other lengths aren't the same
-pub other_lengths : (os ps : List OriginTexts) (xs ys : List NotedSpan) → (length xs ≢ length ys)
-    → pointwise arrival_eq (arrivals_in os xs) (arrivals_in ps ys) ≡ false
-other_lengths os ps [] [] differ = absurd (differ refl)
-other_lengths os ps [] (y ∷ ys) differ = refl
-other_lengths os ps (x ∷ xs) [] differ = refl
-other_lengths os ps (x ∷ xs) (y ∷ ys) differ = behind (arrival_eq (arrival_in os x) (arrival_in ps y)) _ (other_lengths os ps xs ys (λ same. differ (ap suc same)))
 
 -- nothing is left at the end
 pub none_more : (os ps : List OriginTexts) (xs ys : List NotedSpan) (i : ℕ) → length xs ≤ i → length ys ≤ i

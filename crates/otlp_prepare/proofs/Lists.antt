@@ -42,10 +42,6 @@ pub map_twice : {A B C : Type 0} (f : B → C) (g : A → B) (xs : List A) → m
 map_twice f g [] = refl
 map_twice f g (x ∷ xs) = ap (λ ys. f (g x) ∷ ys) (map_twice f g xs)
 
--- what is taken from the front of a list goes behind what was taken before
-pub next_taken : {A : Type 0} → (now before more rest whole : List A) → now ≡ before ++ more → before ++ (more ++ rest) ≡ whole → now ++ rest ≡ whole
-next_taken now before more rest whole is all = ap (λ xs. xs ++ rest) is ∙ (append_assoc before more rest ∙ all)
-
 -- nothing is left of a list without elements
 pub none_left : {A B : Type 0} → (f : List A → List B) (before whole : List B) (rest : List A) → f [] ≡ [] → length rest ≡ 0 → before ++ f rest ≡ whole → before ≡ whole
 none_left f before whole [] none empty all = sym (append-nil before) ∙ (ap (λ xs. before ++ xs) (sym none) ∙ all)

@@ -22,10 +22,6 @@ pub before_up_to : (n : ℕ) (bs : List ActiveData) → AllUpTo n bs → AllBefo
 before_up_to n [] h = tt
 before_up_to n (b ∷ bs) h = (omega arith, before_up_to n bs h.1)
 
-up_to_more : (n m : ℕ) (bs : List ActiveData) → n ≤ m → AllUpTo n bs → AllUpTo m bs
-up_to_more n m [] le h = tt
-up_to_more n m (b ∷ bs) le h = (omega arith, up_to_more n m bs le h.1)
-
 pub AllUpTo-append : (n m : ℕ) (bs : List ActiveData) (x : ActiveData) → n ≤ m → x.ticket ≤ m → AllUpTo n bs → AllUpTo m (bs ++ x ∷ [])
 AllUpTo-append n m [] x le last h = (last, tt)
 AllUpTo-append n m (b ∷ bs) x le last h = (omega arith, AllUpTo-append n m bs x le last h.1)
@@ -45,11 +41,6 @@ total-append f (b ∷ bs) x = omega (arith, total-append f bs x)
 pub length-append_one : (bs : List ActiveData) (x : ActiveData) → length (bs ++ x ∷ []) ≡ length bs + 1
 length-append_one [] x = omega arith
 length-append_one (b ∷ bs) x = omega (arith, length-append_one bs x)
-
--- a batch that leaves
-after_less : (t u : ℕ) (bs : List ActiveData) → t < u → AllAfter u bs → AllAfter t bs
-after_less t u [] lt h = tt
-after_less t u (b ∷ bs) lt h = (omega arith, after_less t u bs lt h.1)
 
 AllAfter-without : (t u : ℕ) (bs : List ActiveData) → AllAfter t bs → AllAfter t (without u bs)
 AllAfter-without t u [] h = tt

@@ -13,7 +13,7 @@ use Rattle.toml.specs.Data.{string, integer, table, Members, no_members, get_mem
 use Rattle.toml.specs.Parse.{parse_document}
 use Rattle.toml.specs.View.{items_of}
 use Rattle.tail_settings.specs.Batch.{is_max_size, batch_of}
-use Rattle.tail_settings.specs.Fault.{FaultData, missing_key, out_of_range, too_many, ◌>>=◌}
+use Rattle.tail_settings.specs.Fault.{FaultData, missing_key, out_of_range, too_many}
 use Rattle.tail_settings.specs.Global.{global_of}
 use Rattle.tail_settings.specs.Keys.{IsFrom, are_all, all_of, number_at, integer_at, required_number_at, text_at, text_or_at, table_at, tables_at, texts_at, not_empty, some_tables_at, some_texts_at, at_most, each}
 use Rattle.tail_settings.specs.Policy.{StatusData, unset, ok, error, LeafData, always_sample, latency, status_code, string_attribute, numeric_attribute, PolicyData, leaf, and, status_of, status_code_of, values_of, string_attribute_of, numeric_attribute_of, leaf_of_type, leaf_of, and_of, policy_of, leaves_of, policies_of}
@@ -27,9 +27,6 @@ use Rattle.tail_settings.specs.Texts.{is_name, is_address, is_header, is_attribu
 use Rattle.settings_check.specs.Document.{number, tables, texts, global_table, status_name, leaf_table, policy_table, cache_table, sampling_table, batch_table, queue_table, retry_table, section_table, tenant_table, document_of}
 
 -- ---- keys
-
-then_ok : {A B : Type 0} (r : Result A FaultData) (x : A) (f : A → Result B FaultData) → r ≡ Ok x → (r >>= f) ≡ f x
-then_ok r x f h = rw h refl
 
 number_back : (key : List ℕ) (low high default n : ℕ) (m : Members) → get_member key m ≡ Some (number n) → IsFrom low high n → number_at key low high default m ≡ Ok n
 unfolding number_at

@@ -36,14 +36,6 @@ drawn m n tenant word had has is given updates = record {
   others = others m n tenant (Some has) updates;
 }
 
-pub draw_none : (tenant : ℕ) (sources : List TenantGenerator) → generator_of tenant sources ≡ None → IsDraw tenant sources None sources
-draw_none tenant sources none = record {
-  word_is = ap (option_map next_word) (sym none);
-  own = none ∙ ap (option_map moved) (sym none);
-  kept = λ _. refl;
-  others = λ other apart. refl;
-}
-
 pub none_of : {X : Type 0} (o : Option X) → is_some o ≡ false → o ≡ None
 none_of None is = refl
 none_of (Some x) is = absurd (cc)
@@ -53,13 +45,6 @@ seeded m n tenant seed starts none is updates = record {
   own = own m n tenant (Some starts) updates ∙ (ap Some is ∙ ap (λ o. Some (or_start o seed)) (sym none));
   others = others m n tenant (Some starts) updates;
 }
-
-pub seeded_before : (tenant seed : ℕ) (sources : List TenantGenerator) → is_some (generator_of tenant sources) ≡ true → IsSeeded tenant seed sources sources
-seeded_before tenant seed sources has = record { own = still (generator_of tenant sources) has; others = λ other apart. refl }
-  where
-    still : (o : Option Lcg) → is_some o ≡ true → o ≡ Some (or_start o seed)
-    still None never = absurd (cc)
-    still (Some g) has = refl
 
 pub removed : (m n : BTreeMap ℕ Lcg) (tenant : ℕ) → tree.Updates nat_cmp m n tenant None → IsRemoved tenant m.entries n.entries
 removed m n tenant updates = record { own = own m n tenant None updates; others = others m n tenant None updates }

@@ -2,5 +2,4 @@ mod Draws
 mod Members
 mod Going
 mod Comings
-mod Seeding
 mod Runs

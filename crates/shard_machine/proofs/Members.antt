@@ -3,20 +3,16 @@ use Rattle.std.proofs.Common.{◌≡◌, ℕ, List, [], ◌∷◌, ◌||◌, ◌
 use Rattle.std.proofs.lemmas.Bool.{cases_eq}
 use Rattle.std.specs.Prelude.{option_map, if◌then◌else◌, ◌≢◌}
 use Rattle.tail_settings.specs.Section.{SectionData}
-use Rattle.tail_settings.specs.Settings.{SettingsData}
-use Rattle.tenant_rules.specs.Own.{Own}
 use Rattle.tenant_rules.specs.State.{State}
 use Rattle.tenant_shard.specs.declared.step.Step.{Step}
 use Rattle.tenant_shard.specs.declared.step.Outcome.{Outcome}
 use Rattle.tenant_shard.specs.View.{View, kept_of, was_of, StaysOf}
-use Rattle.tenant_shard.specs.Lives.{MemberStands, ShardStands}
 use Rattle.tenant_shard.specs.Outcomes.{OwnStep, Asked, Piped, Comes, asked_in, is_retirement, reports}
 use Rattle.tenant_shard.specs.Refusal.{ShardRefuses}
 use Rattle.tenant_shard.specs.Follows.{ShardFollows}
-use Rattle.tenant_shard.specs.Table.{section_of, opened}
 use Rattle.shard_machine.specs.Jitter.{start, TenantGenerator, generator_of}
 use Rattle.shard_machine.specs.Drawing.{StepIsRefused}
-use Rattle.shard_machine.specs.MachineState.{AreMembers, AreSeeded}
+use Rattle.shard_machine.specs.MachineState.{AreMembers}
 
 -- ---- who is or was a member
 
@@ -27,13 +23,6 @@ next_kept false was here later rest never = rest never
 pub never_kept : (t : ℕ) (vs : List View) → was_of t vs ≡ false → kept_of t vs ≡ None
 never_kept t [] never = refl
 never_kept t (v ∷ vs) never = next_kept (eqb v.tenant t) (was_of t vs) v.kept (kept_of t vs) (never_kept t vs) never
-
-pub used_where_kept : (t : ℕ) (vs : List View) (s : State) → kept_of t vs ≡ Some s → was_of t vs ≡ true
-used_where_kept t vs s is = by (was_of t vs) refl
-  where
-    by : (b : Bool) → was_of t vs ≡ b → was_of t vs ≡ true
-    by true at = at
-    by false at = let none = never_kept t vs at in let never : Some s ≡ None = sym is ∙ none in absurd (cc)
 
 -- ---- members that stay
 
@@ -106,17 +95,6 @@ no_member words views tenant are none = some_none (kept_of tenant views) (sym (a
 
 -- ---- at first
 
-both_or_none : (section : Option SectionData) (past : List Own) (known : Bool) (kept : Option State) → MemberStands section past known kept → is_some section ≡ is_some kept
-both_or_none None past known None stands = refl
-both_or_none None past known (Some s) stands = absurd stands
-both_or_none (Some section) past known None stands = absurd stands
-both_or_none (Some section) past known (Some s) stands = refl
-
 mapped : (section : Option SectionData) → is_some (option_map (λ (s : SectionData). start s.seed) section) ≡ is_some section
 mapped None = refl
 mapped (Some section) = refl
-
-pub are_at_first : (table : SettingsData) (members : List ℕ) (views : List View) (words : List TenantGenerator) → ShardStands (opened table members) views → AreSeeded table members words → AreMembers words views
-are_at_first table members views words stands seeded = λ tenant.
-    ap is_some (seeded tenant) ∙ mapped (section_of table members tenant)
-    ∙ both_or_none (section_of table members tenant) [] true (kept_of tenant views) (stands tenant).0

@@ -207,14 +207,6 @@ text_before (end n ∷ fs) more text = text_before fs more text
 text_before (status code ∷ fs) more text = text_before fs more text
 text_before (attribute a ∷ fs) more text = (text.0, text_before fs more text.1)
 
--- the first of several
-pub text_first : (o : Option FieldFact) (fs : List FieldFact) → AreText (attributes_told (told_and o fs)) → AreText (attributes_told (told_and o []))
-text_first None fs text = tt
-text_first (Some (start n)) fs text = tt
-text_first (Some (end n)) fs text = tt
-text_first (Some (status code)) fs text = tt
-text_first (Some (attribute a)) fs text = (text.0, tt)
-
 -- those behind it
 pub text_behind : (o : Option FieldFact) (fs : List FieldFact) → AreText (attributes_told (told_and o fs)) → AreText (attributes_told fs)
 text_behind None fs text = text

@@ -2,14 +2,13 @@
 use Rattle.std.proofs.Common.{◌≡◌, ◌≤◌, ◌<◌, ◌∙◌, ◌+◌, ◌*◌, ◌/◌, ◌%◌, ◌&&◌, ◌==◌, ◌||◌, ℕ, Bool, true, false, List, [], ◌∷◌, ◌++◌, length, take, drop, refl, sym, ap, subst, arith, length-take, length-drop}
 use Rattle.std.specs.Prelude.{if◌then◌else◌, None}
 use Rattle.std.specs.Int.{w64, from_le_bytes}
-use Rattle.std.proofs.lemmas.Bool.{eq-eqb}
 use Rattle.std.proofs.lemmas.List.{take-append-drop}
 use Rattle.pb_wire.specs.declared.field.WireType.{WireType}
 use Rattle.pb_wire.specs.declared.field.WireType.TheVariants as types
 use Rattle.pb_wire.specs.Grammar.{Datum, Varint, Eight, Bytes, Four, Group, Entry, last_byte, more_bytes, IsVarint, code, IsTag, IsField, varint_field, eight_field, bytes_field, four_field}
 use Rattle.pb_wire.proofs.Again.{next_again}
 use Rattle.span_view.specs.Fields.{start, end, told_by, told_and, told}
-use Rattle.span_view.specs.Reading.{fields_from, fields_of, is_kind, held, first_bytes, first_eight}
+use Rattle.span_view.specs.Reading.{fields_from, fields_of, is_kind, held}
 use Rattle.span_view.specs.Short.{IsBehind, StartsWithBytes, StartsWithNumber, may_tell}
 use Rattle.span_view.proofs.Walks.{fields_step}
 
@@ -165,40 +164,3 @@ end_told text rest time starts =
 -- an empty text tells nothing
 pub empty_told : (text : List ℕ) → text ≡ [] → told (fields_of text) ≡ []
 empty_told text empty = ap (λ bs. told (fields_of bs)) empty ∙ ap told (fields_step [])
-
--- of two fields of eight bytes that stand side by side each is the first of its number
-pub first_number : (n : ℕ) (text rest : List ℕ) (one : ℕ) → StartsWithNumber n text one rest
-    → one ≡ first_eight (held n types.Eight (fields_of text))
-first_number n text rest one starts =
-    starts.spells
-    ∙ ap (λ b. first_eight (if b && true then Eight starts.spelling ∷ held n types.Eight (fields_of rest) else held n types.Eight (fields_of rest))) (sym (eq-eqb n n refl))
-    ∙ ap (λ es. first_eight (held n types.Eight es)) (sym starts.first)
-
-pub second_number : (n m : ℕ) (text rest left : List ℕ) (one other : ℕ) → (n == m) ≡ false
-    → StartsWithNumber n text one rest → StartsWithNumber m rest other left
-    → other ≡ first_eight (held m types.Eight (fields_of text))
-second_number n m text rest left one other differs starts next =
-    first_number m rest left other next
-    ∙ ap first_eight (sym (other_held m n types.Eight (Eight starts.spelling) text rest starts.first differs))
-
--- bytes that stand first are the first ones held
-pub first_content : (n : ℕ) (text content rest : List ℕ) → StartsWithBytes n text content rest
-    → content ≡ first_bytes (held n types.Bytes (fields_of text))
-first_content n text content rest starts =
-    ap (λ b. first_bytes (if b && true then Bytes content ∷ held n types.Bytes (fields_of rest) else held n types.Bytes (fields_of rest))) (sym (eq-eqb n n refl))
-    ∙ ap (λ es. first_bytes (held n types.Bytes es)) (sym starts.first)
-
--- what a field of eight bytes holds, no field of bytes does
-pub eight_passed : (n m : ℕ) (text rest : List ℕ) (one : ℕ) → StartsWithNumber n text one rest
-    → held m types.Bytes (fields_of text) ≡ held m types.Bytes (fields_of rest)
-eight_passed n m text rest one starts = ap (held m types.Bytes) starts.first ∙ by (n == m)
-  where
-    by : (b : Bool) → (if b && false then Eight starts.spelling ∷ held m types.Bytes (fields_of rest) else held m types.Bytes (fields_of rest)) ≡ held m types.Bytes (fields_of rest)
-    by true = refl
-    by false = refl
-
--- nor do two of them
-pub eights_passed : (n k m : ℕ) (text rest left : List ℕ) (one other : ℕ) → StartsWithNumber n text one rest
-    → StartsWithNumber k rest other left → held m types.Bytes (fields_of text) ≡ held m types.Bytes (fields_of left)
-eights_passed n k m text rest left one other starts next =
-    eight_passed n m text rest one starts ∙ eight_passed k m rest left other next

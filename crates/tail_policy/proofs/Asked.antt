@@ -9,7 +9,6 @@ use Rattle.tail_settings.specs.Policy.{StatusData, LeafData, PolicyData, leaf, a
 use Rattle.tail_settings.specs.Policy.{always_sample, latency, status_code, string_attribute, numeric_attribute}
 use Rattle.tail_settings.specs.Policy as settings
 use Rattle.span_view.specs.Facts.{AttributeFact, SpanFacts}
-use Rattle.tail_policy.specs.declared.status_bits.StatusBits.{StatusBits}
 use Rattle.tail_policy.specs.Asks.{leaf_asks, ask_attributes, status_bits_of, bits_at}
 use Rattle.tail_policy.specs.Meaning.{number_of}
 use Rattle.tail_policy.specs.Note.{leaves_in, with_bit, bits_of, status, fact_meets, attributes_meet, span_meets}
@@ -87,16 +86,6 @@ listed_is ps z = by (int_eq z (pos 0)) (int_eq z (pos 1)) (int_eq z (pos 2)) ref
     by false true c first is third = ap bits (sym ((Decides-int_eq z (pos 1)).0 is))
     by false false true first second is = ap bits (sym ((Decides-int_eq z (pos 2)).0 is))
     by false false false first second third = sym (unlisted_bits z first second third (leaves_in ps))
-
--- where no status has a bit, none has
-pub no_bits_at : (s : StatusBits) (z : ℤ) → s.unset ≡ 0 → s.ok ≡ 0 → s.error ≡ 0 → bits_at s z ≡ 0
-no_bits_at s z unset ok error = by (int_eq z (pos 0)) (int_eq z (pos 1)) (int_eq z (pos 2))
-  where
-    by : (a b c : Bool) → (if a then s.unset else if b then s.ok else if c then s.error else 0) ≡ 0
-    by true b c = unset
-    by false true c = ok
-    by false false true = error
-    by false false false = refl
 
 -- where no policy asks for an attribute, a span meets what its status meets
 pub status_alone : (ps : List PolicyData) (span : SpanFacts) → ask_attributes ps ≡ false

@@ -19,7 +19,7 @@ use Rattle.tenant_rules.specs.State.{State, ledger_at, state}
 use Rattle.tenant_stores.specs.Part.{Part}
 use Rattle.tenant_pipeline.specs.declared.pipeline.Pipeline.{Pipeline}
 use Rattle.tenant_pipeline.specs.Outbox.{pending_at}
-use Rattle.tenant_pipeline.specs.StateIn.{state_of}
+use Rattle.tenant_pipeline.specs.StateIn.{written_state_of}
 
 -- what the rules see before the first step
 abbrev first : SectionData → State
@@ -52,11 +52,11 @@ pub begins : (own : Pipeline) (p : Part TraceNote) (w : SectionData) → section
     own.batcher ≡ record { rules = rules_of (section_view own.section); start = None; spans = [] } →
     own.sender ≡ no_batches (section_view own.section).sending_queue (section_view own.section).retry_on_failure → own.ledger ≡ no_spans →
     own.caches ≡ no_decisions (section_view own.section).tail_sampling.sampled_cache_size (section_view own.section).tail_sampling.non_sampled_cache_size →
-    state_of (record own { clock = 0; drained = false; rows = record { swept = 0; first = 0; decided = 0; opened = 0 } }) p ≡ state w []
+    written_state_of (record own { clock = 0; drained = false; rows = record { swept = 0; first = 0; decided = 0; opened = 0 } }) p ≡ state w []
 begins own p w section batcher sender ledger caches =
     let none : pending_at p own.batcher ≡ record { rules = rules_of (section_view own.section); start = None; spans = [] } = ap (pending_at p) batcher in
     let kept : shown own.caches ≡ both (no_ids (size_of (section_view own.section) true)) (no_ids (size_of (section_view own.section) false)) = ap shown caches in
-    let made : state_of (record own { clock = 0; drained = false; rows = record { swept = 0; first = 0; decided = 0; opened = 0 } }) p ≡ first (section_view own.section) = cc (none, sender, ledger, kept) in
+    let made : written_state_of (record own { clock = 0; drained = false; rows = record { swept = 0; first = 0; decided = 0; opened = 0 } }) p ≡ first (section_view own.section) = cc (none, sender, ledger, kept) in
     made ∙ (ap first section ∙ first_is w)
 
 -- rows that are in order after some moment are so from the first on

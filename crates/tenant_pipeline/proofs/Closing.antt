@@ -1,5 +1,5 @@
 -- The end of a tenant over the stores: its state afterwards, and what always holds of it.
-use Rattle.std.proofs.Common.{◌≡◌, ◌+◌, ◌++◌, ◌∙◌, ℕ, List, [], ◌∷◌, length, map, refl, sym, ap, subst, arith, length-append, Bool, true, false, cond, None}
+use Rattle.std.proofs.Common.{◌≡◌, ◌+◌, ◌++◌, ◌∙◌, ℕ, List, [], ◌∷◌, length, map, refl, sym, ap, subst, arith, length-append, append-nil, ◌≤◌, ◌<◌, Bool, true, false, cond, Option, None, Some}
 use Rattle.std.specs.Prelude.{option_to_list}
 use Rattle.std.specs.List.{AllByRecursion}
 use Rattle.std.proofs.lemmas.List.{map-append}
@@ -12,11 +12,18 @@ use Rattle.tail_policy.specs.declared.note.TraceNote.{TraceNote}
 use Rattle.tail_settings.specs.Policy.{PolicyData}
 use Rattle.tenant_stores.specs.declared.stores.Stores.{Stores}
 use Rattle.tenant_stores.specs.Part.{Part, part}
-use Rattle.tenant_stores.specs.Counts.{Counts, count, waiting_numbers}
-use Rattle.tenant_stores.specs.Invariant.{StoreInvariant}
+use Rattle.tenant_stores.specs.Counts.{Counts, count, in_table, waiting_numbers}
+use Rattle.tenant_stores.specs.Invariant.{StoreInvariant, named_keys}
 use Rattle.tenant_stores.specs.Shows.{AreAmong}
-use Rattle.tenant_stores.specs.View.{WaitingRow, View, view}
+use Rattle.tenant_stores.specs.View.{WaitingRow, View, keys_in, view}
+use Rattle.tenant_stores.proofs.Keys.{keys_are_shown}
 use Rattle.tenant_stores.proofs.Lists.{count-append}
+use Rattle.tenant_stores.proofs.Shown.{waiting_keys}
+use Rattle.trace_rows.specs.declared.table.Row.{Row}
+use Rattle.trace_rows.specs.Part.{keys_of}
+use Rattle.tail_policy.specs.Note.{verdict_of}
+use Rattle.span_batcher.specs.Batches.{Batch}
+use Rattle.span_batcher.specs.Maps.{spans_of}
 use Rattle.tenant_rules.specs.Batching.{all_sent}
 use Rattle.tenant_rules.specs.Fate.{SettledData, WaitingData, are_sampled}
 use Rattle.tenant_rules.specs.Fronts.{decided_rows, AreInOrder, AllDueBy}
@@ -28,10 +35,12 @@ use Rattle.tenant_rules.specs.Timers.{recount, queued, all_queued, settle, sampl
 use Rattle.tenant_rules.proofs.Sums.{Kept, fixed_of, kept_of, counted_of, drain_kept}
 use Rattle.tenant_pipeline.specs.declared.pipeline.Pipeline.{Pipeline}
 use Rattle.tenant_pipeline.specs.Acts.{at, ActsAt}
-use Rattle.tenant_pipeline.specs.Drains.{SendsAll, all_settled, sampled_keys, closed_state}
-use Rattle.tenant_pipeline.specs.Invariant.{IsNoted, PipelineInvariantAt}
-use Rattle.tenant_pipeline.specs.StateIn.{arrivals_of, counts_in, policies_of, settled_of, waiting_of, part_in, state_by, view_in, state_of}
+use Rattle.tenant_pipeline.specs.Drains.{SendsAll, all_settled, keys_if, sampled_keys, closed_state}
+use Rattle.tenant_pipeline.specs.Invariant.{IsNoted, PipelineInvariantAt, PipelineInvariantFrom}
+use Rattle.tenant_pipeline.specs.StateIn.{all_written, arrivals_of, counts_in, policies_of, settled_of, waiting_of, part_in, state_by, state_of, unsent_at, view_in, with_behind, written_state_of, written_with}
 use Rattle.tenant_pipeline.proofs.Timing.{verdict_is}
+use Rattle.tenant_pipeline.proofs.Behind.{is_behind}
+use Rattle.tenant_pipeline.proofs.Unwritten.{ShowSame, some_same, unsent_same}
 
 -- ---- batches that are sent change neither settings nor what is active
 
@@ -115,20 +124,20 @@ at_counted moment s c = record {
   within_budget = c.within_budget;
 }
 
--- the state, what holds
-pub record Closed (moment : ℕ) (own new : Pipeline) (p q : Part TraceNote) : Type 0 where
-  pub state : ActsAt moment (drain moment) (state_of own p) (state_of new q)
-  pub held : PipelineInvariantAt moment [] [] new q
+-- the state, and what holds while spans at these keys are still stored
+pub record Closed (moment : ℕ) (gone : List ℕ) (own new : Pipeline) (p q : Part TraceNote) : Type 0 where
+  pub state : ActsAt moment (drain moment) (written_state_of own p) (written_state_of new q)
+  pub held : PipelineInvariantAt moment gone [] new q
 
-module _ (own mid : Pipeline) (p q : Part TraceNote) (moment : ℕ) (held : PipelineInvariantAt moment [] [] own p) (first : own.drained ≡ false) (sends : SendsAll moment p own mid)
+module _ (own mid : Pipeline) (p q : Part TraceNote) (moment : ℕ) (gone : List ℕ) (held : PipelineInvariantAt moment [] [] own p) (first : own.drained ≡ false) (sends : SendsAll moment p own mid)
     (shows : view (record (counts_in own) { decided = own.rows.opened }) [] q ≡ record {
       settled = (view_in own p).settled ++ all_settled (policies_of own) (view_in own p).waiting;
       waiting = [];
       pending = [];
     })
-    (sound : StoreInvariant (record (counts_in own) { decided = own.rows.opened }) [] [] q) where
+    (sound : StoreInvariant (record (counts_in own) { decided = own.rows.opened }) gone [] q) where
   abbrev s : State
-  s = state_of own p
+  s = written_state_of own p
 
   abbrev new : Pipeline
   new = record own {
@@ -144,7 +153,7 @@ module _ (own mid : Pipeline) (p q : Part TraceNote) (moment : ℕ) (held : Pipe
       map-append settled_of (view_in own p).settled (all_settled (policies_of own) (view_in own p).waiting)
       ∙ ap (λ (rs : List SettledData). s.settled ++ rs) (settled_are (policies_of own) (view_in own p).waiting held.noted)
 
-  state_is : at moment (state_of new q) ≡ closed_state moment s mid
+  state_is : at moment (written_state_of new q) ≡ closed_state moment s mid
   state_is =
       ap (λ (v : View TraceNote). at moment (state_by new v)) shows
       ∙ (λ i. record (at moment s) {
@@ -162,11 +171,11 @@ module _ (own mid : Pipeline) (p q : Part TraceNote) (moment : ℕ) (held : Pipe
   kept : Kept (fixed_of s) 0 0 (closed_state moment s mid)
   kept = subst (λ (t : State). Kept (fixed_of s) 0 0 t) drain_is (drain_kept (fixed_of s) moment (at moment s) (kept_of (at moment s) (at_counted moment s held.counted)))
 
-  counted : IsCounted (state_of new q)
-  counted = counted_at moment (state_of new q)
+  counted : IsCounted (written_state_of new q)
+  counted = counted_at moment (written_state_of new q)
       (subst (λ (t : State). IsCounted t) (sym state_is) (counted_of (fixed_of s) (closed_state moment s mid) kept held.counted.sound.few))
 
-  within : IsWithinLimits (state_of new q)
+  within : IsWithinLimits (written_state_of new q)
   within =
       let alike : SendsAlike (at moment s) (closed_state moment s mid) = subst (λ (t : State). SendsAlike (at moment s) t) sends.rules
       (alike_next (at moment s) (all_decided moment s.waiting (at moment s)) (closed moment (all_decided moment s.waiting (at moment s)))
@@ -181,8 +190,8 @@ module _ (own mid : Pipeline) (p q : Part TraceNote) (moment : ℕ) (held : Pipe
       let queue_size = was.queue_size_is in
       let num_consumers = was.num_consumers_is in
       let active_fit = was.active_fit in
-      let settled : (state_of new q).settled ≡ s.settled ++ decided_rows (policies_of own) s.waiting = ap (λ (t : State). t.settled) state_is in
-      let waiting : (state_of new q).waiting ≡ [] = ap (λ (t : State). t.waiting) state_is in
+      let settled : (written_state_of new q).settled ≡ s.settled ++ decided_rows (policies_of own) s.waiting = ap (λ (t : State). t.settled) state_is in
+      let waiting : (written_state_of new q).waiting ≡ [] = ap (λ (t : State). t.waiting) state_is in
       let n = ap length settled in
       let m = ap length waiting in
       let both = length-append s.settled (decided_rows (policies_of own) s.waiting) in
@@ -199,14 +208,14 @@ module _ (own mid : Pipeline) (p q : Part TraceNote) (moment : ℕ) (held : Pipe
         others_fit = was.others_fit;
       }
 
-  pub closed_by : Closed moment own new p q
+  pub closed_by : Closed moment gone own new p q
   closed_by =
-      let waiting : (state_of new q).waiting ≡ [] = ap (λ (t : State). t.waiting) state_is in
+      let waiting : (written_state_of new q).waiting ≡ [] = ap (λ (t : State). t.waiting) state_is in
       let left : (view_in new q).waiting ≡ [] = ap (λ (v : View TraceNote). v.waiting) shows in
       record {
         state = state_is ∙ sym drain_is;
         held = record {
-          sound = sound;
+          sound = subst (λ (keys : List ℕ). StoreInvariant (counts_in new) keys [] q) (sym (append-nil gone)) sound;
           first_is = held.first_is;
           noted = subst (λ (rs : List (WaitingRow TraceNote)). AllByRecursion (IsNoted (policies_of own)) rs) (sym left) tt;
           rules_are = sends.rules_are ∙ held.rules_are;
@@ -218,14 +227,46 @@ module _ (own mid : Pipeline) (p q : Part TraceNote) (moment : ℕ) (held : Pipe
           few = let a = kept.accepted_is in let few = held.few in omega (arith, a, few);
           clock_by = held.clock_by;
           reached_fits = held.reached_fits;
+          unsent_is = held.unsent_is;
         };
       }
 
--- the rows have their verdicts in the stores, and all spans that were sent leave them
-module _ (own mid end : Pipeline) (b : batcher.State ℕ) (stores decided last : Stores TraceNote) (gone : List ℕ) (moment : ℕ)
-    (held : PipelineInvariantAt moment [] [] own (part_in own stores)) (first : own.drained ≡ false) (sends : SendsAll moment (part_in own stores) own mid) (b_is : b ≡ fired mid.batcher)
+-- ---- over the stores
+
+-- the tenant then, by the rules
+pub record Ended (moment : ℕ) (own new : Pipeline) (p q : Part TraceNote) : Type 0 where
+  pub state : ActsAt moment (drain moment) (written_state_of own p) (state_of new q)
+  pub held : PipelineInvariantFrom moment new q
+
+-- batches that aren't written stand behind those that are, and nothing else differs
+pub mid_as : (own mid : Pipeline) (us : List (Batch ℕ)) (p : Part TraceNote) → written_with us p mid ≡ record own { batcher = mid.batcher; sender = (written_with us p mid).sender; ledger = mid.ledger } →
+    mid ≡ record own { batcher = mid.batcher; sender = mid.sender; ledger = mid.ledger; unsent = mid.unsent }
+mid_as own mid us p same = ap (λ (x : Pipeline). let y : Pipeline = record x { sender = mid.sender; unsent = mid.unsent } in y) same
+
+-- keys of sampled rows are theirs
+sampled_few : (policies : List PolicyData) (rows : ℕ → Option (Row TraceNote)) (numbers : List ℕ) (key : ℕ) → count key (sampled_keys policies rows numbers) ≤ count key (keys_in rows numbers)
+sampled_few policies rows [] key = omega arith
+sampled_few policies rows (number ∷ numbers) key =
+    let rest = sampled_few policies rows numbers key in
+    let here = by_row (rows number) in
+    let all = count-append key (keys_if policies (rows number)) (sampled_keys policies rows numbers) in
+    let both = count-append key (keys_of (rows number)) (keys_in rows numbers) in
+    omega (arith, rest, here, all, both)
+  where
+    by_verdict : (b : Bool) (keys : List ℕ) → count key (cond b keys []) ≤ count key keys
+    by_verdict true keys = omega arith
+    by_verdict false keys = omega arith
+
+    by_row : (o : Option (Row TraceNote)) → count key (keys_if policies o) ≤ count key (keys_of o)
+    by_row None = omega arith
+    by_row (Some row) = by_verdict (verdict_of policies row.note) row.keys
+
+-- the rows have their verdicts in the stores, and the spans leave them whose batches were dropped or written
+module _ (own mid end : Pipeline) (b : batcher.State ℕ) (stores decided last : Stores TraceNote) (gone : List ℕ) (us : List (Batch ℕ)) (moment : ℕ)
+    (held : PipelineInvariantAt moment [] [] own (part_in own stores)) (first : own.drained ≡ false) (sends : SendsAll moment (part_in own stores) own (written_with us (part_in own stores) mid)) (b_is : b ≡ fired mid.batcher)
+    (behind : 0 < length us → 0 < length mid.sender.queue)
     (end_is : end ≡ record mid { batcher = b; rows = record mid.rows { decided = mid.rows.opened } })
-    (keys : (key : ℕ) → count key gone ≡ count key own.batcher.spans + count key (sampled_keys (policies_of own) (part_in own stores).rows (waiting_numbers (counts_in own))))
+    (keys : (key : ℕ) → count key gone + count key (spans_of us) ≡ count key own.batcher.spans + count key (sampled_keys (policies_of own) (part_in own stores).rows (waiting_numbers (counts_in own))))
     (settles : (pending : List ℕ) → StoreInvariant (counts_in mid) pending [] (part_in mid stores)
     → StoreInvariant (counts_in end) (pending ++ sampled_keys (policies_of mid) (part_in mid stores).rows (waiting_numbers (counts_in mid))) [] (part_in end decided))
     (shows : view (counts_in end) [] (part_in end decided) ≡ record {
@@ -233,6 +274,8 @@ module _ (own mid end : Pipeline) (b : batcher.State ℕ) (stores decided last :
       waiting = [];
       pending = [];
     })
+    (alike : (pending : List ℕ) → StoreInvariant (counts_in mid) pending [] (part_in mid stores)
+    → ShowSame (pending ++ sampled_keys (policies_of mid) (part_in mid stores).rows (waiting_numbers (counts_in mid))) (part_in mid stores) (part_in end decided))
     (leaves : (n : Counts) (pending left held : List ℕ) → ((key : ℕ) → count key gone + count key left ≡ count key pending)
     → StoreInvariant n pending held (part end.tenant decided) → StoreInvariant n left held (part end.tenant last))
     (leaves_shown : (n : Counts) (pending left held shown : List ℕ) → ((key : ℕ) → count key gone + count key left ≡ count key pending)
@@ -240,8 +283,11 @@ module _ (own mid end : Pipeline) (b : batcher.State ℕ) (stores decided last :
   abbrev p : Part TraceNote
   p = part_in own stores
 
+  abbrev sampled : List ℕ
+  sampled = sampled_keys (policies_of own) p.rows (waiting_numbers (counts_in own))
+
   abbrev whole : List ℕ
-  whole = own.batcher.spans ++ sampled_keys (policies_of own) p.rows (waiting_numbers (counts_in own))
+  whole = own.batcher.spans ++ sampled
 
   abbrev counts : Counts
   counts = record (counts_in own) { decided = own.rows.opened }
@@ -252,25 +298,29 @@ module _ (own mid end : Pipeline) (b : batcher.State ℕ) (stores decided last :
     batcher = fired mid.batcher;
     sender = mid.sender;
     ledger = mid.ledger;
+    unsent = mid.unsent;
   }
+
+  mid_is : mid ≡ record own { batcher = mid.batcher; sender = mid.sender; ledger = mid.ledger; unsent = mid.unsent }
+  mid_is = mid_as own mid us p sends.same
 
   ended_is : end ≡ ended
   ended_is =
       end_is
       ∙ (ap (λ (s : batcher.State ℕ). let y : Pipeline = record mid { batcher = s; rows = record mid.rows { decided = mid.rows.opened } } in y) b_is
-      ∙ ap (λ (x : Pipeline). let y : Pipeline = record x { batcher = fired x.batcher; rows = record x.rows { decided = x.rows.opened } } in y) sends.same)
+      ∙ ap (λ (x : Pipeline). let y : Pipeline = record x { batcher = fired x.batcher; rows = record x.rows { decided = x.rows.opened } } in y) mid_is)
 
-  all_gone : (key : ℕ) → count key gone + count key [] ≡ count key whole
+  all_gone : (key : ℕ) → count key gone + count key (spans_of us) ≡ count key whole
   all_gone key =
       let is = keys key in
-      let both = count-append key own.batcher.spans (sampled_keys (policies_of own) p.rows (waiting_numbers (counts_in own))) in
+      let both = count-append key own.batcher.spans sampled in
       omega (arith, is, both)
 
   decided_sound : StoreInvariant counts whole [] (part own.tenant decided)
   decided_sound =
       let settles' : StoreInvariant (counts_in own) own.batcher.spans [] p → StoreInvariant (counts_in end) whole [] (part_in end decided) =
       subst (λ (x : Pipeline). StoreInvariant (counts_in x) own.batcher.spans [] (part_in x stores)
-      → StoreInvariant (counts_in end) (own.batcher.spans ++ sampled_keys (policies_of x) (part_in x stores).rows (waiting_numbers (counts_in x))) [] (part_in end decided)) sends.same (settles own.batcher.spans) in
+      → StoreInvariant (counts_in end) (own.batcher.spans ++ sampled_keys (policies_of x) (part_in x stores).rows (waiting_numbers (counts_in x))) [] (part_in end decided)) mid_is (settles own.batcher.spans) in
       subst (λ (x : Pipeline). StoreInvariant (counts_in x) whole [] (part_in x decided)) ended_is (settles' held.sound)
 
   decided_shows : view counts [] (part own.tenant decided) ≡ record {
@@ -287,20 +337,76 @@ module _ (own mid end : Pipeline) (b : batcher.State ℕ) (stores decided last :
         settled = (view (counts_in x) [] (part_in x stores)).settled ++ all_settled (policies_of x) (view (counts_in x) [] (part_in x stores)).waiting;
         waiting = [];
         pending = [];
-      }) sends.same shows in
+      }) mid_is shows in
       subst (λ (x : Pipeline). view (counts_in x) [] (part_in x decided) ≡ record {
         settled = (view_in own p).settled ++ all_settled (policies_of own) (view_in own p).waiting;
         waiting = [];
         pending = [];
       }) ended_is shows'
 
-  pub ends : Closed moment own (record end { drained = true }) p (part_in end last)
+  decided_same : ShowSame whole p (part own.tenant decided)
+  decided_same =
+      let alike' : StoreInvariant (counts_in own) own.batcher.spans [] p → ShowSame whole p (part_in end decided) =
+      subst (λ (x : Pipeline). StoreInvariant (counts_in x) own.batcher.spans [] (part_in x stores)
+      → ShowSame (own.batcher.spans ++ sampled_keys (policies_of x) (part_in x stores).rows (waiting_numbers (counts_in x))) (part_in x stores) (part_in end decided)) mid_is (alike own.batcher.spans) in
+      subst (λ (x : Pipeline). ShowSame whole p (part_in x decided)) ended_is (alike' held.sound)
+
+  tenant : end.tenant ≡ own.tenant
+  tenant = ap (λ (x : Pipeline). x.tenant) ended_is
+
+  left_sound : StoreInvariant counts (spans_of us) [] (part own.tenant last)
+  left_sound =
+      subst (λ (t : ℕ). StoreInvariant counts whole [] (part t decided) → StoreInvariant counts (spans_of us) [] (part t last)) tenant (leaves counts whole (spans_of us) [] all_gone) decided_sound
+
+  left_shown : (shown : List ℕ) → AreAmong shown (spans_of us) → view counts shown (part own.tenant last) ≡ view counts shown (part own.tenant decided)
+  left_shown shown among =
+      subst (λ (t : ℕ). StoreInvariant counts whole [] (part t decided) → view counts shown (part t last) ≡ view counts shown (part t decided)) tenant
+      (λ sound. leaves_shown counts whole (spans_of us) [] shown all_gone sound among) decided_sound
+
+  -- each key is named before
+  whole_named : AreAmong whole (named_keys (counts_in own) own.batcher.spans p)
+  whole_named key =
+      let few = sampled_few (policies_of own) p.rows (waiting_numbers (counts_in own)) key in
+      let waits = waiting_keys (counts_in own) p.rows key held.sound.order in
+      let both = count-append key own.batcher.spans sampled in
+      let named = count-append key (keys_in p.rows (in_table (counts_in own))) own.batcher.spans in
+      omega (arith, few, waits, both, named)
+
+  -- the spans that are left show what they did
+  left_same : (shown : List ℕ) → AreAmong shown (spans_of us) → ShowSame shown p (part own.tenant last)
+  left_same shown among =
+      let q = part own.tenant decided in
+      let old = keys_are_shown TraceNote (counts_in own) own.batcher.spans [] p held.sound in
+      let new = keys_are_shown TraceNote counts whole [] q decided_sound in
+      let in_whole : AreAmong shown whole = λ key. let few = among key in let all = all_gone key in omega (arith, few, all) in
+      let rest : ShowSame shown p q = some_same whole p q
+      (λ ks few. old.each ks (λ key. let a = few key in let b = whole_named key in omega (arith, a, b)))
+      (λ ks few. new.each ks (λ key. let a = few key in let b = new.waits key in omega (arith, a, b))) decided_same shown in_whole in
+      ap (λ (v : View TraceNote). v.pending) (left_shown shown among) ∙ rest
+
+  sent_same : unsent_at (part own.tenant last) us ≡ unsent_at p us
+  sent_same = unsent_same us p (part own.tenant last) left_same
+
+  pub ends : Ended moment own (record end { drained = true; unsent = us }) p (part_in end last)
   ends =
-      let tenant : end.tenant ≡ own.tenant = ap (λ (x : Pipeline). x.tenant) ended_is in
-      let left : StoreInvariant counts [] [] (part own.tenant last) =
-      subst (λ (t : ℕ). StoreInvariant counts whole [] (part t decided) → StoreInvariant counts [] [] (part t last)) tenant (leaves counts whole [] [] all_gone) decided_sound in
-      let same : view counts [] (part own.tenant last) ≡ view counts [] (part own.tenant decided) =
-      subst (λ (t : ℕ). StoreInvariant counts whole [] (part t decided) → view counts [] (part t last) ≡ view counts [] (part t decided)) tenant
-      (λ sound. leaves_shown counts whole [] [] [] all_gone sound (λ key. omega arith)) decided_sound in
-      let closed = closed_by own mid p (part own.tenant last) moment held first sends (same ∙ decided_shows) left in
-      subst (λ (x : Pipeline). Closed moment own (record x { drained = true }) p (part_in x last)) (sym ended_is) closed
+      let q = part own.tenant last in
+      let sent = written_with us p mid in
+      let now : Pipeline = record own {
+        drained = true;
+        rows = record own.rows { decided = own.rows.opened };
+        batcher = fired sent.batcher;
+        sender = sent.sender;
+        ledger = sent.ledger;
+      } in
+      let new : Pipeline = record ended { drained = true; unsent = us } in
+      let closed : Closed moment (spans_of us) own now p q =
+      closed_by own sent p q moment (spans_of us) held first sends (left_shown [] (λ key. omega arith) ∙ decided_shows) left_sound in
+      let now_is : now ≡ all_written new q = λ i. record now { sender = with_behind (sym sent_same i) mid.sender; unsent = held.unsent_is i } in
+      let done : Ended moment own new p q = record {
+        state = subst (λ (o : Pipeline). ActsAt moment (drain moment) (written_state_of own p) (written_state_of o q)) now_is closed.state;
+        held = record {
+          whole = subst (λ (o : Pipeline). PipelineInvariantAt moment (spans_of us) [] o q) now_is closed.held;
+          behind = is_behind us new behind refl refl refl;
+        };
+      } in
+      subst (λ (x : Pipeline). Ended moment own (record x { drained = true; unsent = us }) p (part_in x last)) (sym ended_is) done

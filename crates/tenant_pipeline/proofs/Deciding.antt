@@ -20,23 +20,23 @@ use Rattle.tenant_rules.specs.Fate.{are_sampled}
 use Rattle.tenant_rules.specs.State.{State}
 use Rattle.tenant_rules.specs.Timers.{queued, flushed, decide, first_due, is_batch}
 use Rattle.tenant_pipeline.specs.declared.pipeline.Pipeline.{Pipeline}
-use Rattle.tenant_pipeline.specs.StateIn.{arrivals_of, counts_in, policies_of, view_in, state_of}
-use Rattle.tenant_pipeline.specs.Invariant.{IsNoted, PipelineInvariantBy}
+use Rattle.tenant_pipeline.specs.StateIn.{arrivals_of, counts_in, policies_of, view_in, written_state_of}
+use Rattle.tenant_pipeline.specs.Invariant.{IsNoted, WrittenInvariantBy}
 use Rattle.tenant_pipeline.specs.Outbox.{arrivals_at, Sends, Groups}
 use Rattle.tenant_pipeline.proofs.Timing.{verdict_is, from_after, flush_is, drop_is, keep_is}
 use Rattle.tenant_pipeline.proofs.Holding.{flush_held, decide_held}
 
 -- the state and what holds
 pub record Ran (own new : Pipeline) (p q : Part TraceNote) (is : State) : Type 0 where
-  pub state : state_of new q ≡ is
-  pub held : PipelineInvariantBy new q
+  pub state : written_state_of new q ≡ is
+  pub held : WrittenInvariantBy new q
 
-module _ (own : Pipeline) (p q : Part TraceNote) (held : PipelineInvariantBy own p) where
+module _ (own : Pipeline) (p q : Part TraceNote) (held : WrittenInvariantBy own p) where
   -- the batch timer ran out
-  pub flush_all : (mid : Pipeline) (due : ℕ) (batch : BatchData) (f : batcher.State ℕ) → next_due own.batcher ≡ Some due → is_batch (next_due own.batcher) (first_due (state_of own p).waiting) ≡ true → due ≤ 2 ^ 62 →
+  pub flush_all : (mid : Pipeline) (due : ℕ) (batch : BatchData) (f : batcher.State ℕ) → next_due own.batcher ≡ Some due → is_batch (next_due own.batcher) (first_due (written_state_of own p).waiting) ≡ true → due ≤ 2 ^ 62 →
       batch ≡ as_sent (record { moment = due; spans = arrivals_at p own.batcher.spans }) → Sends (queued batch) own mid → f ≡ fired mid.batcher →
       StoreInvariant (counts_in own) [] [] q → view (counts_in own) [] q ≡ view (counts_in own) [] p →
-      Ran own (record mid { batcher = f; clock = due }) p q (flushed (Some due) (state_of own p))
+      Ran own (record mid { batcher = f; clock = due }) p q (flushed (Some due) (written_state_of own p))
   flush_all mid due batch f due_is first fits batch_is sends f_is sound shows =
       let new : Pipeline = record own { batcher = fired own.batcher; sender = mid.sender; ledger = mid.ledger; clock = due } in
       let same : record mid { batcher = f; clock = due } ≡ new =
@@ -45,16 +45,16 @@ module _ (own : Pipeline) (p q : Part TraceNote) (held : PipelineInvariantBy own
       let is = flush_is own p q due mid.sender mid.ledger shows (λ t s l. ap (λ (b : BatchData). queued b t) (sym batch_is) ∙ sends.rules t s l) in
       let now = flush_held own p q held due mid.sender mid.ledger due_is fits first shows sound is in
       record {
-        state = subst (λ (x : Pipeline). state_of x q ≡ flushed (Some due) (state_of own p)) (sym same) is;
-        held = subst (λ (x : Pipeline). PipelineInvariantBy x q) (sym same) now;
+        state = subst (λ (x : Pipeline). written_state_of x q ≡ flushed (Some due) (written_state_of own p)) (sym same) is;
+        held = subst (λ (x : Pipeline). WrittenInvariantBy x q) (sym same) now;
       }
 
   module _ (row : Row TraceNote) (rest : List (WaitingRow TraceNote)) (waiting : (view_in own p).waiting ≡ row_shown p row ∷ rest) (noted : IsNoted (policies_of own) (row_shown p row))
-      (first : is_batch (next_due own.batcher) (first_due (state_of own p).waiting) ≡ false) (fits : row.due ≤ 2 ^ 62) (after : IsAfter (next_due own.batcher) row.due) where
+      (first : is_batch (next_due own.batcher) (first_due (written_state_of own p).waiting) ≡ false) (fits : row.due ≤ 2 ^ 62) (after : IsAfter (next_due own.batcher) row.due) where
     -- the first row that waits was decided, and its spans left
     pub drop_all : (caches : CachesData) → shown caches ≡ noted_in false (row_shown p row).trace (shown own.caches) → (n : ℕ) → n ≡ length (arrivals_at p row.keys) → verdict_of (policies_of own) row.note ≡ false →
         StoreInvariant (one_decided (counts_in own)) own.batcher.spans [] q → view (one_decided (counts_in own)) own.batcher.spans q ≡ first_dropped (view_in own p) →
-        Ran own (record own { rows = record own.rows { decided = own.rows.decided + 1 }; clock = row.due; ledger = moved Undecided NotSampled n own.ledger; caches = caches }) p q (decide (state_of own p).waiting (state_of own p))
+        Ran own (record own { rows = record own.rows { decided = own.rows.decided + 1 }; clock = row.due; ledger = moved Undecided NotSampled n own.ledger; caches = caches }) p q (decide (written_state_of own p).waiting (written_state_of own p))
     drop_all caches remembers n size verdict sound shows =
         let new : Pipeline = record own { rows = record own.rows { decided = own.rows.decided + 1 }; clock = row.due; ledger = moved Undecided NotSampled n own.ledger; caches = caches } in
         let w = row_shown p row in
@@ -63,14 +63,14 @@ module _ (own : Pipeline) (p q : Part TraceNote) (held : PipelineInvariantBy own
         let is = drop_is own p q w rest waiting caches remembers n size sampled e in
         record {
           state = is;
-          held = decide_held own p q held new w rest waiting first fits refl refl refl refl (from_after row.due (next_due own.batcher) after) (ap (λ (v : View TraceNote). v.waiting) e) sound is;
+          held = decide_held own p q held new w rest waiting first fits refl refl refl refl refl (from_after row.due (next_due own.batcher) after) (ap (λ (v : View TraceNote). v.waiting) e) sound is;
         }
 
     -- and its spans wait for a batch, or left in one
     pub keep_all : (caches : CachesData) → shown caches ≡ noted_in true (row_shown p row).trace (shown own.caches) → (mid : Pipeline) (p1 : Part TraceNote) → verdict_of (policies_of own) row.note ≡ true → Groups row.due row.keys p own mid →
         p1.spans ≡ p.spans → p1.texts ≡ p.texts → view (one_decided (counts_in own)) (own.batcher.spans ++ row.keys) p1 ≡ first_kept (view_in own p) →
         view (one_decided (counts_in own)) mid.batcher.spans q ≡ view (one_decided (counts_in own)) mid.batcher.spans p1 → StoreInvariant (one_decided (counts_in own)) mid.batcher.spans [] q →
-        Ran own (record mid { rows = record mid.rows { decided = own.rows.decided + 1 }; clock = row.due; caches = caches }) p q (decide (state_of own p).waiting (state_of own p))
+        Ran own (record mid { rows = record mid.rows { decided = own.rows.decided + 1 }; clock = row.due; caches = caches }) p q (decide (written_state_of own p).waiting (written_state_of own p))
     keep_all caches remembers mid p1 verdict groups spans texts kept shows sound =
         let b = mid.batcher in
         let new : Pipeline = record own { rows = record own.rows { decided = own.rows.decided + 1 }; clock = row.due; batcher = b; sender = mid.sender; ledger = mid.ledger; caches = caches } in
@@ -84,8 +84,8 @@ module _ (own : Pipeline) (p q : Part TraceNote) (held : PipelineInvariantBy own
         let pending' : spans_at p1.spans p1.texts b.spans ≡ spans_at p.spans p.texts b.spans = λ i. spans_at (spans i) (texts i) b.spans in
         let e' = shows ∙ (λ i. record { settled = settled' i; waiting = waiting' i; pending = pending' i }) in
         let is = keep_is own p q w rest waiting caches remembers b mid.sender mid.ledger sampled groups.rules e' in
-        let now = decide_held own p q held new w rest waiting first fits refl refl refl groups.rules_are (from_after row.due (next_due b) groups.timer) (ap (λ (v : View TraceNote). v.waiting) e') sound is in
+        let now = decide_held own p q held new w rest waiting first fits refl refl refl refl groups.rules_are (from_after row.due (next_due b) groups.timer) (ap (λ (v : View TraceNote). v.waiting) e') sound is in
         record {
-          state = subst (λ (x : Pipeline). state_of x q ≡ decide (state_of own p).waiting (state_of own p)) (sym same) is;
-          held = subst (λ (x : Pipeline). PipelineInvariantBy x q) (sym same) now;
+          state = subst (λ (x : Pipeline). written_state_of x q ≡ decide (written_state_of own p).waiting (written_state_of own p)) (sym same) is;
+          held = subst (λ (x : Pipeline). WrittenInvariantBy x q) (sym same) now;
         }

@@ -40,7 +40,7 @@ use Rattle.tenant_pipeline.specs.declared.undo.Undo.{Undo}
 use Rattle.tenant_pipeline.specs.Acts.{at}
 use Rattle.tenant_pipeline.specs.Drains.{SendsRow, SendsRest, SendsAll}
 use Rattle.tenant_pipeline.specs.Invariant.{IsNoted, PipelineInvariantAt}
-use Rattle.tenant_pipeline.specs.StateIn.{arrivals_of, counts_in, policies_of, waiting_of, state_of}
+use Rattle.tenant_pipeline.specs.StateIn.{arrivals_of, counts_in, policies_of, waiting_of, written_state_of}
 use Rattle.tenant_pipeline.specs.Outbox.{arrivals_at, pending_at, undone, AreThere, HasRoom, Groups, Sends, Took}
 use Rattle.tenant_pipeline.specs.Undo.{before, TakesBack}
 use Rattle.drop_ledger.specs.Ledger.{ledger_of}
@@ -134,9 +134,10 @@ drained_some moment [] some = absurd (omega (arith, some))
 drained_some moment (x ∷ xs) some = refl
 
 -- where something is pending there is one
-pub rest_some : (own mid : Pipeline) (p : Part TraceNote) (moment offers : ℕ) (b : BatchData) → 0 < length own.batcher.spans → AreThere p own.batcher.spans →
-    b ≡ as_sent (record { moment = moment; spans = arrivals_at p own.batcher.spans }) → Sends (queued b) own mid → Took offers own.sender mid.sender → HasRoom own → SendsRest moment p own mid
-rest_some own mid p moment offers b some there is_batch sends took room = record {
+pub rest_some : (own mid : Pipeline) (p : Part TraceNote) (moment : ℕ) (b : BatchData) → 0 < length own.batcher.spans → AreThere p own.batcher.spans →
+    b ≡ as_sent (record { moment = moment; spans = arrivals_at p own.batcher.spans }) → Sends (queued b) own mid → mid.sender.sending ≡ own.sender.sending →
+    (length own.sender.queue ≤ own.sender.sending.queue_size → length mid.sender.queue ≤ own.sender.sending.queue_size) → HasRoom own → SendsRest moment p own mid
+rest_some own mid p moment b some there is_batch sends settings left room = record {
   rules = λ s is.
       let xs = arrivals_at p own.batcher.spans in
       let t : State = record s { drained = true; pending = fired s.pending } in
@@ -149,19 +150,31 @@ rest_some own mid p moment offers b some there is_batch sends took room = record
   room =
       let section : mid.section ≡ own.section = ap (λ (x : Pipeline). x.section) sends.same in
       let size : mid.section.sending_queue.queue_size ≡ own.section.sending_queue.queue_size = ap (λ (x : Section). x.sending_queue.queue_size) section in
-      let setting : mid.sender.sending.queue_size ≡ own.sender.sending.queue_size = ap (λ (x : SendingQueueData). x.queue_size) took.settings in
+      let setting : mid.sender.sending.queue_size ≡ own.sender.sending.queue_size = ap (λ (x : SendingQueueData). x.queue_size) settings in
       let was = room.size in
       let fits = room.fits in
-      let queue = took.room (omega (arith, was, fits)) in
+      let queue = left (omega (arith, was, fits)) in
       record { size = omega (arith, size, setting, was); fits = omega (arith, queue, size, was) };
 }
 
+-- and else there is none
+pub rest_none : (own : Pipeline) (p : Part TraceNote) (moment : ℕ) → own.batcher.spans ≡ [] → HasRoom own → SendsRest moment p own own
+rest_none own p moment none room = record {
+  rules = λ s is.
+      let t : State = record s { drained = true; pending = fired s.pending } in
+      ap (λ (b : batcher.State Arrival). all_queued (all_sent (option_to_list (drained moment b.spans))) t) is.pending
+      ∙ (ap (λ (keys : List ℕ). all_queued (all_sent (option_to_list (drained moment (arrivals_at p keys)))) t) none
+      ∙ (λ i. let u : State = record t { sender = is.sender i; ledger = is.ledger i } in u));
+  same = refl;
+  room = record { size = room.size; fits = room.fits };
+}
+
 -- it can be taken back
-pub rest_undo : (u v : Undo) (own mid : Pipeline) (offers : ℕ) (change : State → State) → Sends change own mid → Took offers own.sender mid.sender →
+pub rest_undo : (u v : Undo) (own mid : Pipeline) (offers : ℕ) → mid ≡ record own { sender = mid.sender; ledger = mid.ledger } → Took offers own.sender mid.sender →
     v.rows ≡ u.rows → v.counters ≡ u.counters → v.mark ≡ u.mark → v.former ≡ u.former → v.offers ≡ u.offers + offers →
     (start : Pipeline) → TakesBack u start own → TakesBack v start mid
-rest_undo u v own mid offers change sends took rows counters mark former more start back =
-    let kept : mid.batcher ≡ own.batcher = ap (λ (x : Pipeline). x.batcher) sends.same in
+rest_undo u v own mid offers same took rows counters mark former more start back =
+    let kept : mid.batcher ≡ own.batcher = ap (λ (x : Pipeline). x.batcher) same in
     record {
       rows = rows ∙ back.rows;
       ledger = ap ledger_of counters ∙ back.ledger;
@@ -169,8 +182,22 @@ rest_undo u v own mid offers change sends took rows counters mark former more st
       mark = let few = back.mark in let same : v.mark.count ≡ u.mark.count = ap (λ (m : MarkData). m.count) mark in let size : length (before v.former mid.batcher).spans ≡ length (before u.former own.batcher).spans = λ i. length (before (former i) (kept i)).spans in omega (arith, few, same, size);
       sender = ap (λ (n : ℕ). undone n mid.sender) more ∙ (undone-add u.offers offers mid.sender ∙ (ap (undone u.offers) took.back ∙ back.sender));
       offers = let count = took.count in let few = back.offers in omega (arith, more, count, few);
-      same = back.same ∙ sym (ap (λ (x : Pipeline). let y : Pipeline = record x { rows = start.rows; ledger = start.ledger; batcher = start.batcher; sender = start.sender } in y) sends.same);
+      same = back.same ∙ sym (ap (λ (x : Pipeline). let y : Pipeline = record x { rows = start.rows; ledger = start.ledger; batcher = start.batcher; sender = start.sender } in y) same);
     }
+
+-- what changes the counters alone can be taken back as before
+pub back_same : (u : Undo) (start own new : Pipeline) → new ≡ record own { ledger = new.ledger } → TakesBack u start own → TakesBack u start new
+back_same u start own new same back =
+    let done : TakesBack u start (record own { ledger = new.ledger }) = record {
+      rows = back.rows;
+      ledger = back.ledger;
+      batcher = back.batcher;
+      mark = back.mark;
+      sender = back.sender;
+      offers = back.offers;
+      same = back.same;
+    } in
+    subst (λ (o : Pipeline). TakesBack u start o) (sym same) done
 
 -- ---- all rows
 
@@ -180,7 +207,7 @@ rows_from own p d = map waiting_of (waiting_rows p.spans p.texts p.rows (range d
 
 -- the state once the rows up to this number have left, with these decided
 abbrev pub sent_to : ℕ → ℕ → List SettledData → Pipeline → Part TraceNote → Pipeline → State
-sent_to moment d settled own p now = record (at moment (state_of own p)) {
+sent_to moment d settled own p now = record (at moment (written_state_of own p)) {
   settled = settled;
   waiting = rows_from own p d;
   pending = pending_at p now.batcher;
@@ -191,9 +218,9 @@ sent_to moment d settled own p now = record (at moment (state_of own p)) {
 -- the rows up to a number have left
 pub record SentTo (moment d : ℕ) (p : Part TraceNote) (own now : Pipeline) : Type 0 where
   pub settled : List SettledData
-  pub settled_is : settled ++ decided_rows (policies_of own) (rows_from own p d) ≡ (state_of own p).settled ++ decided_rows (policies_of own) (state_of own p).waiting
-  pub rules : all_decided moment (state_of own p).waiting (at moment (state_of own p)) ≡ all_decided moment (rows_from own p d) (sent_to moment d settled own p now)
-  pub kept : Kept (fixed_of (state_of own p)) 0 0 (sent_to moment d settled own p now)
+  pub settled_is : settled ++ decided_rows (policies_of own) (rows_from own p d) ≡ (written_state_of own p).settled ++ decided_rows (policies_of own) (written_state_of own p).waiting
+  pub rules : all_decided moment (written_state_of own p).waiting (at moment (written_state_of own p)) ≡ all_decided moment (rows_from own p d) (sent_to moment d settled own p now)
+  pub kept : Kept (fixed_of (written_state_of own p)) 0 0 (sent_to moment d settled own p now)
   pub same : now ≡ record own { batcher = now.batcher; sender = now.sender; ledger = now.ledger }
   pub rules_are : now.batcher.rules ≡ own.batcher.rules
   pub timer : IsAfter (next_due now.batcher) moment
@@ -211,7 +238,7 @@ settled_kept f moment row rows s b is k = let size : spans_in s.waiting ≡ leng
 
 module _ (own : Pipeline) (p : Part TraceNote) (moment : ℕ) (held : PipelineInvariantAt moment [] [] own p) where
   abbrev s0 : State
-  s0 = state_of own p
+  s0 = written_state_of own p
 
   -- keys that the rows name have their spans
   named : (key : ℕ) → 0 < count key (named_keys (counts_in own) own.batcher.spans p) → p.spans key ≢ None

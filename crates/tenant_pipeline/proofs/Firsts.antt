@@ -18,8 +18,8 @@ use Rattle.tenant_rules.specs.Batching.{spans_in}
 use Rattle.tenant_rules.specs.Fate.{WaitingData}
 use Rattle.tenant_rules.specs.Timers.{first_due, is_batch}
 use Rattle.tenant_pipeline.specs.declared.pipeline.Pipeline.{Pipeline}
-use Rattle.tenant_pipeline.specs.StateIn.{counts_in, policies_of, waiting_of, view_in, state_of}
-use Rattle.tenant_pipeline.specs.Invariant.{IsNoted, PipelineInvariantBy}
+use Rattle.tenant_pipeline.specs.StateIn.{counts_in, policies_of, waiting_of, view_in, written_state_of}
+use Rattle.tenant_pipeline.specs.Invariant.{IsNoted, WrittenInvariantBy}
 use Rattle.tenant_pipeline.specs.Outbox.{arrivals_at, AreThere, HasRoom}
 use Rattle.tenant_pipeline.proofs.Spans.{arrival_or, there_is, there-front, there-back}
 use Rattle.tenant_pipeline.proofs.Timing.{noted_some, after_first}
@@ -37,7 +37,7 @@ pub record FirstRow (own : Pipeline) (p : Part TraceNote) (row : Row TraceNote) 
   pub pending : own.ledger.places.pending ≡ length own.batcher.spans
   pub room : HasRoom own
 
-module _ (own : Pipeline) (p : Part TraceNote) (held : PipelineInvariantBy own p) (row : Row TraceNote) (some : own.rows.decided < own.rows.opened) (is : Some row ≡ p.rows (own.rows.decided + 1)) where
+module _ (own : Pipeline) (p : Part TraceNote) (held : WrittenInvariantBy own p) (row : Row TraceNote) (some : own.rows.decided < own.rows.opened) (is : Some row ≡ p.rows (own.rows.decided + 1)) where
   -- keys of pending spans and of the row have their spans
   all_there : AreThere p (own.batcher.spans ++ row.keys)
   all_there = λ key named none.
@@ -54,15 +54,15 @@ module _ (own : Pipeline) (p : Part TraceNote) (held : PipelineInvariantBy own p
       let clash : Path (Option _) (Some found.0) None = sym found.1 ∙ none in
       absurd (cc)
 
-  pub first_row : is_batch (next_due own.batcher) (first_due (state_of own p).waiting) ≡ false →
-      ((due : ℕ) → first_due (state_of own p).waiting ≡ Some due → due ≤ 2 ^ 62) → FirstRow own p row
+  pub first_row : is_batch (next_due own.batcher) (first_due (written_state_of own p).waiting) ≡ false →
+      ((due : ℕ) → first_due (written_state_of own p).waiting ≡ Some due → due ≤ 2 ^ 62) → FirstRow own p row
   first_row first fits =
       let f = first_is_shown TraceNote (counts_in own) own.batcher.spans [] p held.sound some in
       let both : Path (Option (Row TraceNote)) (Some row) (Some f.row) = is ∙ f.there in
       let same : row ≡ f.row = cc in
       let waiting : (view_in own p).waiting ≡ row_shown p row ∷ f.rest = f.waiting ∙ ap (λ (r : Row TraceNote). row_shown p r ∷ f.rest) (sym same) in
-      let rows : (state_of own p).waiting ≡ waiting_of (row_shown p row) ∷ map waiting_of f.rest = ap (λ (ws : List (WaitingRow TraceNote)). map waiting_of ws) waiting in
-      let due : first_due (state_of own p).waiting ≡ Some row.due = ap (λ (ws : List WaitingData). first_due ws) rows in
+      let rows : (written_state_of own p).waiting ≡ waiting_of (row_shown p row) ∷ map waiting_of f.rest = ap (λ (ws : List (WaitingRow TraceNote)). map waiting_of ws) waiting in
+      let due : first_due (written_state_of own p).waiting ≡ Some row.due = ap (λ (ws : List WaitingData). first_due ws) rows in
       let noted : AllByRecursion (IsNoted (policies_of own)) (row_shown p row ∷ f.rest) = subst (λ (ws : List (WaitingRow TraceNote)). AllByRecursion (IsNoted (policies_of own)) ws) waiting held.noted in
       let size : length (arrivals_at p row.keys) ≡ length row.keys = ap length (there_is p row.keys (there-back p own.batcher.spans row.keys all_there)) ∙ length-map row.keys (arrival_or p) in
       let left : length (arrivals_at p own.batcher.spans) ≡ length own.batcher.spans = ap length (there_is p own.batcher.spans (there-front p own.batcher.spans row.keys all_there)) ∙ length-map own.batcher.spans (arrival_or p) in

@@ -21,17 +21,18 @@ use Rattle.tenant_rules.specs.State.{State}
 use Rattle.tenant_rules.specs.Timers.{recount, all_queued, grouped}
 use Rattle.tenant_pipeline.specs.declared.pipeline.Pipeline.{Pipeline}
 use Rattle.tenant_pipeline.specs.declared.undo.Undo.{Undo}
-use Rattle.tenant_pipeline.specs.StateIn.{state_of}
+use Rattle.tenant_pipeline.specs.StateIn.{written_state_of}
 use Rattle.tenant_pipeline.specs.Outbox.{arrivals_at, AreThere, batch_at, pending_at, undone, Sends, HasRoom, Groups, Took}
 use Rattle.tenant_pipeline.specs.Undo.{before, TakesBack}
 use Rattle.tenant_pipeline.proofs.Grouping.{cuts_are, group_size, added_are, sent_sizes, added_rules, added_spans, added_after}
-use Rattle.tenant_pipeline.proofs.Sending.{undone-add, took_none, pending_after}
+use Rattle.tenant_pipeline.proofs.Sending.{undone-add, pending_after}
 use Rattle.tenant_pipeline.proofs.Undoing.{before_same, cut_same, mark_stays}
 
-module _ (own mid : Pipeline) (p : Part TraceNote) (moment : ℕ) (keys : List ℕ) (sent : List BatchData) (offers : ℕ)
+module _ (own mid : Pipeline) (p : Part TraceNote) (moment : ℕ) (keys : List ℕ) (sent : List BatchData)
     (there : AreThere p (own.batcher.spans ++ keys))
     (sent_are : sent ≡ all_sent (map (batch_at p) (cuts own.batcher.rules moment (own.batcher.spans ++ keys))))
-    (sends : Sends (λ s. all_queued sent (recount Undecided Pending (length keys) s)) own mid) (took : Took offers own.sender mid.sender) where
+    (sends : Sends (λ s. all_queued sent (recount Undecided Pending (length keys) s)) own mid)
+    (settings : mid.sender.sending ≡ own.sender.sending) (left : length own.sender.queue ≤ own.sender.sending.queue_size → length mid.sender.queue ≤ own.sender.sending.queue_size) where
   abbrev b : batcher.State ℕ
   b = added moment keys own.batcher
 
@@ -55,7 +56,7 @@ module _ (own mid : Pipeline) (p : Part TraceNote) (moment : ℕ) (keys : List �
   -- how many spans are pending
   pending_of_group : own.ledger.places.pending ≡ length own.batcher.spans → mid.ledger.places.pending ≡ length b.spans
   pending_of_group counted =
-      let s : State = state_of own p in
+      let s : State = written_state_of own p in
       let t : State = recount Undecided Pending (length keys) s in
       let whole = sent_sizes p own.batcher moment keys there in
       let many : sizes sent ≡ sizes (all_sent (map (batch_at p) (cuts own.batcher.rules moment (own.batcher.spans ++ keys)))) = ap sizes sent_are in
@@ -69,10 +70,10 @@ module _ (own mid : Pipeline) (p : Part TraceNote) (moment : ℕ) (keys : List �
   room_of_group room =
       let section : mid.section ≡ own.section = ap (λ (x : Pipeline). x.section) sends.same in
       let size : mid.section.sending_queue.queue_size ≡ own.section.sending_queue.queue_size = ap (λ (x : Section). x.sending_queue.queue_size) section in
-      let setting : mid.sender.sending.queue_size ≡ own.sender.sending.queue_size = ap (λ (x : SendingQueueData). x.queue_size) took.settings in
+      let setting : mid.sender.sending.queue_size ≡ own.sender.sending.queue_size = ap (λ (x : SendingQueueData). x.queue_size) settings in
       let was = room.size in
       let fits = room.fits in
-      let queue = took.room (omega (arith, was, fits)) in
+      let queue = left (omega (arith, was, fits)) in
       record { size = omega (arith, size, setting, was); fits = omega (arith, queue, size, was) }
 
   pub groups_by : AreValidRules own.batcher.rules → 0 < length keys → IsAfter (next_due own.batcher) moment → own.ledger.places.pending ≡ length own.batcher.spans → HasRoom own →
@@ -86,11 +87,13 @@ module _ (own mid : Pipeline) (p : Part TraceNote) (moment : ℕ) (keys : List �
     room = room_of_group room;
   }
 
+module _ (own mid : Pipeline) (moment : ℕ) (keys : List ℕ) (offers : ℕ) (same : mid ≡ record own { sender = mid.sender; ledger = mid.ledger }) (took : Took offers own.sender mid.sender) where
   -- with the former pending spans noted
   pub undo_by : (planned : PlannedData ℕ) (u v : Undo) → planned.start ≡ own.batcher.start → planned.spans ≡ own.batcher.spans →
       v.rows ≡ u.rows → v.counters ≡ u.counters → v.mark ≡ u.mark → v.former ≡ Some (unwrap_or u.former planned) → v.offers ≡ u.offers + offers →
-      (start : Pipeline) → TakesBack u start own → TakesBack v start new
+      (start : Pipeline) → TakesBack u start own → TakesBack v start (record mid { batcher = added moment keys own.batcher })
   undo_by planned u v start_is spans_is rows counters mark former more start back =
+      let b : batcher.State ℕ = added moment keys own.batcher in
       let rules = added_rules moment keys own.batcher in
       let pending : before v.former b ≡ before u.former own.batcher =
       ap (λ (o : Option (PlannedData ℕ)). before o b) former ∙ before_same u.former own.batcher b planned rules start_is spans_is in
@@ -101,7 +104,7 @@ module _ (own mid : Pipeline) (p : Part TraceNote) (moment : ℕ) (keys : List �
         mark = subst (λ (s : batcher.State ℕ). v.mark.count ≤ length s.spans) (sym pending) (subst (λ (m : MarkData). m.count ≤ length (before u.former own.batcher).spans) (sym mark) back.mark);
         sender = ap (λ (n : ℕ). undone n mid.sender) more ∙ (undone-add u.offers offers mid.sender ∙ (ap (undone u.offers) took.back ∙ back.sender));
         offers = let count = took.count in let few = back.offers in omega (arith, more, count, few);
-        same = back.same ∙ sym (ap (λ (x : Pipeline). let y : Pipeline = record x { rows = start.rows; ledger = start.ledger; batcher = start.batcher; sender = start.sender } in y) sends.same);
+        same = back.same ∙ sym (ap (λ (x : Pipeline). let y : Pipeline = record x { rows = start.rows; ledger = start.ledger; batcher = start.batcher; sender = start.sender } in y) same);
       }
 
 -- with a group that fills no batch
@@ -119,7 +122,7 @@ module _ (own : Pipeline) (p : Part TraceNote) (moment : ℕ) (keys : List ℕ) 
         rules = λ s sender ledger i. let t : State = record s { sender = sender i; ledger = moved Undecided Pending (length keys) (ledger i) } in t;
         same = refl;
       } in
-      groups_by own mid p moment keys [] 0 there sent sends (took_none own.sender) sound some after counted room
+      groups_by own mid p moment keys [] there sent sends refl (λ fits. fits) sound some after counted room
 
 -- the keys are pending behind what was
 pub appended_spans : (b : batcher.State ℕ) (moment : ℕ) (keys : List ℕ) → AreValidRules b.rules → length b.spans + length keys < threshold b.rules → (added moment keys b).spans ≡ b.spans ++ keys

@@ -17,7 +17,7 @@ use Rattle.tenant_rules.proofs.Limits.{remembered_stay_within}
 use Rattle.tenant_pipeline.specs.declared.journal.Journal.{Journal}
 use Rattle.tenant_pipeline.specs.declared.pipeline.Pipeline.{Pipeline}
 use Rattle.tenant_pipeline.specs.declared.undo.Undo.{Undo}
-use Rattle.tenant_pipeline.specs.StateIn.{state_of}
+use Rattle.tenant_pipeline.specs.StateIn.{written_state_of}
 use Rattle.tenant_pipeline.specs.Invariant.{PipelineInvariantAt}
 use Rattle.tenant_pipeline.specs.Posts.{Came, IsPosting, IsSameTenant, IsWritten}
 use Rattle.tenant_pipeline.specs.Undo.{TakesBack, hits_undone}
@@ -27,7 +27,7 @@ module _ (own : Pipeline) (p : Part TraceNote) (caches : CachesData) where
   abbrev pub cached_own : Pipeline
   cached_own = record own { caches = caches }
 
-  cached_held : (reached : ℕ) (gone held : List ℕ) → IsWithinLimits (state_of cached_own p) → PipelineInvariantAt reached gone held own p → PipelineInvariantAt reached gone held cached_own p
+  cached_held : (reached : ℕ) (gone held : List ℕ) → IsWithinLimits (written_state_of cached_own p) → PipelineInvariantAt reached gone held own p → PipelineInvariantAt reached gone held cached_own p
   cached_held reached gone held within h =
       let c = h.counted in
       record {
@@ -50,24 +50,25 @@ module _ (own : Pipeline) (p : Part TraceNote) (caches : CachesData) where
         few = h.few;
         clock_by = h.clock_by;
         reached_fits = h.reached_fits;
+        unsent_is = h.unsent_is;
       }
 
   -- shown as before
   module _ (same : shown caches ≡ shown own.caches) where
-    pub shown_is : state_of cached_own p ≡ state_of own p
-    shown_is = ap (λ (k : BothData). let t : State = record (state_of own p) { caches = k } in t) same
+    pub shown_is : written_state_of cached_own p ≡ written_state_of own p
+    shown_is = ap (λ (k : BothData). let t : State = record (written_state_of own p) { caches = k } in t) same
 
     pub shown_held : (reached : ℕ) (gone held : List ℕ) → PipelineInvariantAt reached gone held own p → PipelineInvariantAt reached gone held cached_own p
     shown_held reached gone held h = cached_held reached gone held (subst (λ (s : State). IsWithinLimits s) (sym shown_is) h.within) h
 
   -- with an event more
   module _ (sampled : Bool) (trace : List ℕ) (noted : shown caches ≡ noted_in sampled trace (shown own.caches)) where
-    pub noted_is : state_of cached_own p ≡ remembered sampled trace (state_of own p)
-    noted_is = ap (λ (k : BothData). let t : State = record (state_of own p) { caches = k } in t) noted
+    pub noted_is : written_state_of cached_own p ≡ remembered sampled trace (written_state_of own p)
+    noted_is = ap (λ (k : BothData). let t : State = record (written_state_of own p) { caches = k } in t) noted
 
     noted_held : (reached : ℕ) (gone held : List ℕ) → PipelineInvariantAt reached gone held own p → PipelineInvariantAt reached gone held cached_own p
     noted_held reached gone held h =
-        cached_held reached gone held (subst (λ (s : State). IsWithinLimits s) (sym noted_is) (remembered_stay_within sampled trace (state_of own p) h.within)) h
+        cached_held reached gone held (subst (λ (s : State). IsWithinLimits s) (sym noted_is) (remembered_stay_within sampled trace (written_state_of own p) h.within)) h
 
     noted_posting : (moment : ℕ) (journal : Journal) (held : List ℕ) → IsPosting moment journal held own p → IsPosting moment journal held cached_own p
     noted_posting moment journal held posting = record {
@@ -78,7 +79,7 @@ module _ (own : Pipeline) (p : Part TraceNote) (caches : CachesData) where
 
     -- the event comes before what becomes of the span
     pub came_after : (change other : State → State) (moment : ℕ) (journal journal' : Journal) (new : Pipeline) (q : Part TraceNote) →
-        change (remembered sampled trace (state_of own p)) ≡ other (state_of own p) →
+        change (remembered sampled trace (written_state_of own p)) ≡ other (written_state_of own p) →
         Came change moment journal journal' cached_own new p q → Came other moment journal journal' own new p q
     came_after change other moment journal journal' new q is came = record {
       rules = came.rules ∙ (ap change noted_is ∙ is);
@@ -89,7 +90,7 @@ module _ (own : Pipeline) (p : Part TraceNote) (caches : CachesData) where
 
     -- or after it
     pub came_before : (change other : State → State) (moment : ℕ) (journal journal' : Journal) (old : Pipeline) (o : Part TraceNote) →
-        remembered sampled trace (change (state_of old o)) ≡ other (state_of old o) →
+        remembered sampled trace (change (written_state_of old o)) ≡ other (written_state_of old o) →
         Came change moment journal journal' old own o p → Came other moment journal journal' old cached_own o p
     came_before change other moment journal journal' old o is came = record {
       rules = noted_is ∙ (ap (remembered sampled trace) came.rules ∙ is);

@@ -22,12 +22,12 @@ use Rattle.tenant_rules.specs.State.{State}
 use Rattle.tenant_rules.specs.Timers.{flushed, decide, first_due, next_timer, is_batch, one_run}
 use Rattle.tenant_pipeline.specs.declared.pipeline.Pipeline.{Pipeline}
 use Rattle.tenant_pipeline.specs.declared.pipeline.RowCounts.{RowCounts}
-use Rattle.tenant_pipeline.specs.StateIn.{waiting_of, counts_in, policies_of, state_of, view_in}
-use Rattle.tenant_pipeline.specs.Invariant.{IsNoted, IsFrom, PipelineInvariantAt, PipelineInvariantBy}
+use Rattle.tenant_pipeline.specs.StateIn.{waiting_of, counts_in, policies_of, written_state_of, view_in}
+use Rattle.tenant_pipeline.specs.Invariant.{IsNoted, IsFrom, PipelineInvariantAt, WrittenInvariantBy}
 use Rattle.tenant_pipeline.proofs.Timing.{after_one, due_by-later, order_from, order_later, timer_later, from_after}
 
 -- all timers before a moment have run
-pub held_later : (own : Pipeline) (p : Part TraceNote) (moment : ℕ) → PipelineInvariantBy own p → own.clock ≤ moment → moment ≤ 2 ^ 62 → is_due (next_timer (state_of own p)) moment ≡ false → PipelineInvariantAt moment [] [] own p
+pub held_later : (own : Pipeline) (p : Part TraceNote) (moment : ℕ) → WrittenInvariantBy own p → own.clock ≤ moment → moment ≤ 2 ^ 62 → is_due (next_timer (written_state_of own p)) moment ≡ false → PipelineInvariantAt moment [] [] own p
 held_later own p moment held later fits quiet =
     let wait = own.section.tail_sampling.decision_wait in
     record {
@@ -35,14 +35,15 @@ held_later own p moment held later fits quiet =
       first_is = held.first_is;
       noted = held.noted;
       rules_are = held.rules_are;
-      order = order_later own.clock moment (next_due own.batcher) (state_of own p).waiting quiet held.order;
-      due_by = due_by-later (own.clock + wait) (moment + wait) (state_of own p).waiting (omega (arith, later)) held.due_by;
-      timer = from_after moment (next_due own.batcher) (timer_later moment (next_due own.batcher) (first_due (state_of own p).waiting) quiet);
+      order = order_later own.clock moment (next_due own.batcher) (written_state_of own p).waiting quiet held.order;
+      due_by = due_by-later (own.clock + wait) (moment + wait) (written_state_of own p).waiting (omega (arith, later)) held.due_by;
+      timer = from_after moment (next_due own.batcher) (timer_later moment (next_due own.batcher) (first_due (written_state_of own p).waiting) quiet);
       counted = held.counted;
       within = held.within;
       few = held.few;
       clock_by = later;
       reached_fits = fits;
+      unsent_is = held.unsent_is;
     }
 
 -- the batch timer is due by its moment
@@ -55,22 +56,22 @@ decision_due : (timer : Option ℕ) (due : ℕ) → is_batch timer (Some due) �
 decision_due None due first = grind (arith, nat_tests)
 decision_due (Some batch) due first = grind (arith, nat_tests, first)
 
-module _ (own : Pipeline) (p q : Part TraceNote) (held : PipelineInvariantBy own p) where
+module _ (own : Pipeline) (p q : Part TraceNote) (held : WrittenInvariantBy own p) where
   abbrev s : State
-  s = state_of own p
+  s = written_state_of own p
 
   pub flush_held : (due : ℕ) (sender : SenderData) (ledger : LedgerData) → next_due own.batcher ≡ Some due → due ≤ 2 ^ 62 → is_batch (next_due own.batcher) (first_due s.waiting) ≡ true →
       view (counts_in own) [] q ≡ view (counts_in own) [] p → StoreInvariant (counts_in own) [] [] q →
-      state_of (record own { batcher = fired own.batcher; sender = sender; ledger = ledger; clock = due }) q ≡ flushed (Some due) s →
-      PipelineInvariantBy (record own { batcher = fired own.batcher; sender = sender; ledger = ledger; clock = due }) q
+      written_state_of (record own { batcher = fired own.batcher; sender = sender; ledger = ledger; clock = due }) q ≡ flushed (Some due) s →
+      WrittenInvariantBy (record own { batcher = fired own.batcher; sender = sender; ledger = ledger; clock = due }) q
   flush_held due sender ledger due_is fits first shows sound is =
       let new : Pipeline = record own { batcher = fired own.batcher; sender = sender; ledger = ledger; clock = due } in
       let wait = own.section.tail_sampling.decision_wait in
       let first' : is_batch (Some due) (first_due s.waiting) ≡ true = sym (ap (λ (o : Option ℕ). is_batch o (first_due s.waiting)) due_is) ∙ first in
       let now : is_due (next_timer s) due ≡ true = ap (λ (o : Option ℕ). is_due (lesser o (first_due s.waiting)) due) due_is ∙ batch_due due (first_due s.waiting) first' in
       let run : flushed (Some due) s ≡ one_run s = sym (ap (λ (o : Option ℕ). flushed o s) due_is) ∙ sym (rw first refl) in
-      let one = after_one s (state_of new q) due now (is ∙ run) held.counted held.within in
-      let waiting : (state_of new q).waiting ≡ s.waiting = ap (λ (v : View TraceNote). map waiting_of v.waiting) shows in
+      let one = after_one s (written_state_of new q) due now (is ∙ run) held.counted held.within in
+      let waiting : (written_state_of new q).waiting ≡ s.waiting = ap (λ (v : View TraceNote). map waiting_of v.waiting) shows in
       let clock : own.clock ≤ due = subst (IsFrom own.clock) due_is held.timer in
       record {
         sound = sound;
@@ -85,25 +86,26 @@ module _ (own : Pipeline) (p q : Part TraceNote) (held : PipelineInvariantBy own
         few = let a = one.accepted in let few = held.few in omega (arith, a, few);
         clock_by = omega arith;
         reached_fits = fits;
+        unsent_is = held.unsent_is;
       }
 
   -- a row was decided
   pub decide_held : (new : Pipeline) (w : WaitingRow TraceNote) (rest : List (WaitingRow TraceNote)) → (view_in own p).waiting ≡ w ∷ rest →
       is_batch (next_due own.batcher) (first_due s.waiting) ≡ false → w.due ≤ 2 ^ 62 →
-      new.section ≡ own.section → new.rows ≡ record own.rows { decided = own.rows.decided + 1 } → new.clock ≡ w.due → new.batcher.rules ≡ own.batcher.rules → IsFrom w.due (next_due new.batcher) →
+      new.section ≡ own.section → new.unsent ≡ own.unsent → new.rows ≡ record own.rows { decided = own.rows.decided + 1 } → new.clock ≡ w.due → new.batcher.rules ≡ own.batcher.rules → IsFrom w.due (next_due new.batcher) →
       (view_in new q).waiting ≡ rest → StoreInvariant (one_decided (counts_in own)) new.batcher.spans [] q →
-      state_of new q ≡ decide s.waiting s → PipelineInvariantBy new q
-  decide_held new w rest waiting first fits section rows clock rules timer left sound is =
+      written_state_of new q ≡ decide s.waiting s → WrittenInvariantBy new q
+  decide_held new w rest waiting first fits section unsent rows clock rules timer left sound is =
       let wait = own.section.tail_sampling.decision_wait in
       let rows_are : s.waiting ≡ waiting_of w ∷ map waiting_of rest = ap (λ (ws : List (WaitingRow TraceNote)). map waiting_of ws) waiting in
       let first' : is_batch (next_due own.batcher) (Some w.due) ≡ false = sym (ap (λ (ws : List WaitingData). is_batch (next_due own.batcher) (first_due ws)) rows_are) ∙ first in
       let now : is_due (next_timer s) w.due ≡ true = ap (λ (ws : List WaitingData). is_due (lesser (next_due own.batcher) (first_due ws)) w.due) rows_are ∙ decision_due (next_due own.batcher) w.due first' in
       let run : decide s.waiting s ≡ one_run s = sym (rw first refl) in
-      let one = after_one s (state_of new q) w.due now (is ∙ run) held.counted held.within in
+      let one = after_one s (written_state_of new q) w.due now (is ∙ run) held.counted held.within in
       let order : AreInOrder own.clock (waiting_of w ∷ map waiting_of rest) = subst (AreInOrder own.clock) rows_are held.order in
       let by : AllDueBy (own.clock + wait) (waiting_of w ∷ map waiting_of rest) = subst (AllDueBy (own.clock + wait)) rows_are held.due_by in
       let noted : AllByRecursion (IsNoted (policies_of own)) (w ∷ rest) = subst (λ (ws : List (WaitingRow TraceNote)). AllByRecursion (IsNoted (policies_of own)) ws) waiting held.noted in
-      let now_left : (state_of new q).waiting ≡ map waiting_of rest = ap (λ (ws : List (WaitingRow TraceNote)). map waiting_of ws) left in
+      let now_left : (written_state_of new q).waiting ≡ map waiting_of rest = ap (λ (ws : List (WaitingRow TraceNote)). map waiting_of ws) left in
       let later : own.clock ≤ w.due = order.0 in
       let wait_is : new.section.tail_sampling.decision_wait ≡ wait = ap (λ (x : Section). x.tail_sampling.decision_wait) section in
       let most_is : new.section.tail_sampling.num_traces ≡ own.section.tail_sampling.num_traces = ap (λ (x : Section). x.tail_sampling.num_traces) section in
@@ -113,12 +115,13 @@ module _ (own : Pipeline) (p q : Part TraceNote) (held : PipelineInvariantBy own
         first_is = let f : new.rows.first ≡ own.rows.first = ap (λ (r : RowCounts). r.first) rows in let o : new.rows.opened ≡ own.rows.opened = ap (λ (r : RowCounts). r.opened) rows in let h = held.first_is in omega (arith, f, o, h, most_is);
         noted = subst (λ (x : Section). AllByRecursion (IsNoted (section_view x).tail_sampling.policies) (view_in new q).waiting) (sym section) (subst (λ (ws : List (WaitingRow TraceNote)). AllByRecursion (IsNoted (policies_of own)) ws) (sym left) noted.1);
         rules_are = rules ∙ (held.rules_are ∙ sym (ap (λ (x : Section). rules_of (section_view x)) section));
-        order = subst (λ (c : ℕ). AreInOrder c (state_of new q).waiting) (sym clock) (subst (AreInOrder w.due) (sym now_left) order.1);
-        due_by = subst (λ (c : ℕ). AllDueBy c (state_of new q).waiting) (sym bounds) (subst (AllDueBy (w.due + wait)) (sym now_left) (due_by-later (own.clock + wait) (w.due + wait) (map waiting_of rest) (omega (arith, later)) by.1));
+        order = subst (λ (c : ℕ). AreInOrder c (written_state_of new q).waiting) (sym clock) (subst (AreInOrder w.due) (sym now_left) order.1);
+        due_by = subst (λ (c : ℕ). AllDueBy c (written_state_of new q).waiting) (sym bounds) (subst (AllDueBy (w.due + wait)) (sym now_left) (due_by-later (own.clock + wait) (w.due + wait) (map waiting_of rest) (omega (arith, later)) by.1));
         timer = subst (λ (c : ℕ). IsFrom c (next_due new.batcher)) (sym clock) timer;
         counted = one.counted;
         within = one.within;
         few = let a = one.accepted in let f = held.few in let o : new.rows.opened ≡ own.rows.opened = ap (λ (r : RowCounts). r.opened) rows in omega (arith, a, f, o);
         clock_by = omega arith;
         reached_fits = omega (arith, clock, fits);
+        unsent_is = unsent ∙ held.unsent_is;
       }

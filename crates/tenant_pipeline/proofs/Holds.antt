@@ -31,7 +31,7 @@ use Rattle.tenant_pipeline.specs.Posts.{all_keys, all_text_keys, arrival_at, hel
 use Rattle.tenant_pipeline.specs.Undo.{hits_undone}
 use Rattle.drop_ledger.specs.Ledger.{LedgerData}
 use Rattle.tenant_pipeline.proofs.Placing.{takes_back}
-use Rattle.tenant_pipeline.specs.StateIn.{counts_in, policies_of, state_by, state_of, view_in}
+use Rattle.tenant_pipeline.specs.StateIn.{counts_in, policies_of, state_by, written_state_of, view_in}
 use Rattle.tenant_pipeline.proofs.Before.{all_before}
 use Rattle.tenant_pipeline.proofs.Origins.{among_at, keys-push, keys-push_held, keys_index, keys_pushed, origin_stays}
 use Rattle.tenant_pipeline.proofs.Posting.{held_over}
@@ -169,9 +169,9 @@ module _ (origins : List OriginTexts) (old new : HeldOrigins) (index : ℕ) (one
 
 -- none is taken without room
 pub no_room : (moment : ℕ) (origins : List OriginTexts) (journal : Journal) (held : HeldOrigins) (span : NotedSpan) (own : Pipeline) (p : Part TraceNote) → IsNext moment journal origins held span own p →
-    IsFull (state_of own p) → CameNext (come moment (prepared.arrival_in origins span)) moment journal origins held own own p p
+    IsFull (written_state_of own p) → CameNext (come moment (prepared.arrival_in origins span)) moment journal origins held own own p p
 no_room moment origins journal held span own p next full = record {
-  rules = ap (λ (b : Bool). cond b (goes moment (prepared.arrival_in origins span) (counted_in (state_of own p))) (state_of own p)) (sym full);
+  rules = ap (λ (b : Bool). cond b (goes moment (prepared.arrival_in origins span) (counted_in (written_state_of own p))) (written_state_of own p)) (sym full);
   posting = next.posting;
   held_at = next.held_at;
   counted_by = omega arith;
@@ -276,9 +276,9 @@ module _ (moment : ℕ) (journal : Journal) (origins : List OriginTexts) (held0 
             CameNext (come moment (prepared.arrival_in origins span)) moment journal' origins held1 own own' p r
         came_held journal' own' r came =
             let here = all (counts_in own) pending [] sound0 in
-            let state : state_of own q ≡ state_of own p = ap (state_by own) same in
+            let state : written_state_of own q ≡ written_state_of own p = ap (state_by own) same in
             record {
-              rules = came.rules ∙ (ap (λ (a : Arrival). come moment a (state_of own q)) arrival_same ∙ ap (come moment (prepared.arrival_in origins span)) state);
+              rules = came.rules ∙ (ap (λ (a : Arrival). come moment a (written_state_of own q)) arrival_same ∙ ap (come moment (prepared.arrival_in origins span)) state);
               posting = came.posting (held_keys held1) holding;
               held_at = record {
                 many = here.many;

@@ -25,7 +25,7 @@ use Rattle.tenant_pipeline.specs.declared.pipeline.Pipeline.{Pipeline}
 use Rattle.tenant_pipeline.specs.declared.journal.Journal.{Journal}
 use Rattle.otlp_prepare.specs.declared.noted.NotedSpan.{NotedSpan}
 use Rattle.tenant_pipeline.specs.declared.undo.Undo.{Undo}
-use Rattle.tenant_pipeline.specs.StateIn.{arrival_of, waiting_of, counts_in, policies_of, state_by, state_of, view_in}
+use Rattle.tenant_pipeline.specs.StateIn.{arrival_of, waiting_of, counts_in, policies_of, state_by, written_state_of, view_in}
 use Rattle.tenant_pipeline.specs.Invariant.{IsNoted, PipelineInvariantAt}
 use Rattle.tenant_pipeline.specs.Posts.{arrival_at, Came, IsComing, IsPosting}
 use Rattle.tenant_pipeline.proofs.Counting.{HasOne, fits_same, joined_order, joined_due_by, joins_fit}
@@ -44,7 +44,7 @@ module _ (own : Pipeline) (p mid q : Part TraceNote) (moment : ℕ) (journal : J
   new = record own { ledger = taken 1 own.ledger }
 
   abbrev s : State
-  s = state_of own p
+  s = written_state_of own p
 
   abbrev x : Arrival
   x = arrival_at p keys span.text
@@ -77,7 +77,7 @@ module _ (own : Pipeline) (p mid q : Part TraceNote) (moment : ℕ) (journal : J
       ap (λ (t : List ℕ). map waiting_of (joined_rows t st note v.waiting)) (coming.trace ∙ ap (λ (a : Arrival). trace_of a) (sym x_is))
       ∙ (joined_is st note v.waiting ∙ ap (λ (a : Arrival). joined a s.waiting) x_is)
 
-  state_is : state_of new q ≡ joins x (counted_in s)
+  state_is : written_state_of new q ≡ joins x (counted_in s)
   state_is = ap (state_by new) shown_q ∙ ap (λ (ws : List WaitingData). let y : State = record (counted_in s) { waiting = ws } in y) rows_are
 
   has : has_row (trace_of x) s.waiting ≡ true
@@ -98,7 +98,7 @@ module _ (own : Pipeline) (p mid q : Part TraceNote) (moment : ℕ) (journal : J
       let wait = own.section.tail_sampling.decision_wait in
       let sound = ready.sound other h.sound in
       let one : HasOne s = record { budget = budget; few = fits } in
-      let all = fits_same (joins x (counted_in s)) (state_of new q) state_is (joins_fit x s has one (record { counted = h.counted; within = h.within })) in
+      let all = fits_same (joins x (counted_in s)) (written_state_of new q) state_is (joins_fit x s has one (record { counted = h.counted; within = h.within })) in
       let holds : PipelineInvariantAt moment journal.undo.gone.items other new q = record {
         sound = sound_q (counts_in own) pend other above seated.opened sound;
         first_is = h.first_is;
@@ -112,6 +112,7 @@ module _ (own : Pipeline) (p mid q : Part TraceNote) (moment : ℕ) (journal : J
         few = let few = h.few in omega (arith, few);
         clock_by = h.clock_by;
         reached_fits = h.reached_fits;
+        unsent_is = h.unsent_is;
       } in
       record {
         holds = subst (λ (u : Undo). PipelineInvariantAt moment u.gone.items other new q) (sym undo_is) holds;

@@ -28,7 +28,7 @@ use Rattle.tenant_rules.specs.Timers.{grouped, recount}
 use Rattle.tenant_pipeline.specs.declared.pipeline.Pipeline.{Pipeline}
 use Rattle.tenant_pipeline.specs.declared.journal.Journal.{Journal}
 use Rattle.tenant_pipeline.specs.declared.undo.Undo.{Undo}
-use Rattle.tenant_pipeline.specs.StateIn.{arrivals_of, settled_of, waiting_of, counts_in, policies_of, pending_with, state_of, view_in}
+use Rattle.tenant_pipeline.specs.StateIn.{arrivals_of, settled_of, waiting_of, counts_in, policies_of, pending_with, written_state_of, view_in}
 use Rattle.tenant_pipeline.specs.Invariant.{IsNoted, PipelineInvariantAt}
 use Rattle.tenant_pipeline.specs.Outbox.{arrivals_at, AreThere, Groups, pending_at}
 use Rattle.tenant_pipeline.specs.Posts.{arrival_at, Came, IsPosting}
@@ -58,7 +58,7 @@ module _ (own : Pipeline) (p mid q : Part TraceNote) (moment : ℕ) (journal : J
   pend = gone ++ own.batcher.spans
 
   abbrev s : State
-  s = state_of own p
+  s = written_state_of own p
 
   abbrev x : Arrival
   x = arrival_at p keys text
@@ -134,9 +134,9 @@ module _ (own : Pipeline) (p mid q : Part TraceNote) (moment : ℕ) (journal : J
     waiting_same : (view n b.spans q).waiting ≡ (view_in own p).waiting
     waiting_same = ap (λ (v : View TraceNote). v.waiting) late_shown ∙ ap (λ (v : View TraceNote). v.waiting) ready.shown
 
-    state_is : state_of new_own q ≡ grouped Undecided moment (x ∷ []) (counted_in s)
+    state_is : written_state_of new_own q ≡ grouped Undecided moment (x ∷ []) (counted_in s)
     state_is =
-        let shown : state_of new_own q ≡ record (counted_in s) { pending = pending_at q b; sender = new.sender; ledger = new.ledger } =
+        let shown : written_state_of new_own q ≡ record (counted_in s) { pending = pending_at q b; sender = new.sender; ledger = new.ledger } =
         λ i. let y : State = record (counted_in s) { settled = map settled_of (settled_same i); waiting = map waiting_of (waiting_same i); pending = pending_at q b; sender = new.sender; ledger = new.ledger } in y in
         let made = groups.rules (counted_in s) (ap (λ (ss : List SpanTexts). pending_with own.batcher ss) (sym same_spans)) refl refl in
         shown ∙ (sym made ∙ ap (λ (xs : List Arrival). grouped Undecided moment xs (counted_in s)) late_is)
@@ -144,14 +144,14 @@ module _ (own : Pipeline) (p mid q : Part TraceNote) (moment : ℕ) (journal : J
     one_more : HasOne s
     one_more = record { budget = budget; few = fits }
 
-    kept_then : KeptCounts (more_of 1 (fixed_of s)) 0 0 (state_of new_own q)
+    kept_then : KeptCounts (more_of 1 (fixed_of s)) 0 0 (written_state_of new_own q)
     kept_then = subst (λ (t : State). KeptCounts (more_of 1 (fixed_of s)) 0 0 t) (sym state_is) (late_kept moment x s one_more (record { counted = posting.holds.counted; within = posting.holds.within }))
 
     held_then : (other : List ℕ) → IsPosting moment journal other own p → PipelineInvariantAt moment journal'.undo.gone.items other new_own q
     held_then other again =
         let h = again.holds in
         let wait = own.section.tail_sampling.decision_wait in
-        let all_fits = fits_same (grouped Undecided moment (x ∷ []) (counted_in s)) (state_of new_own q) state_is (late_fits moment x s one_more (record { counted = h.counted; within = h.within })) in
+        let all_fits = fits_same (grouped Undecided moment (x ∷ []) (counted_in s)) (written_state_of new_own q) state_is (late_fits moment x s one_more (record { counted = h.counted; within = h.within })) in
         let sound = sound_q n pend other (ready.sound other h.sound) in
         let same : (k : ℕ) → count k (journal'.undo.gone.items ++ b.spans) ≡ count k (pend ++ key ∷ []) = λ k.
         let made = all k in
@@ -159,7 +159,7 @@ module _ (own : Pipeline) (p mid q : Part TraceNote) (moment : ℕ) (journal : J
         let back' = count-append k pend (key ∷ []) in
         let mid' = count-append k gone own.batcher.spans in
         omega (arith, made, front, back', mid') in
-        let rows : (state_of new_own q).waiting ≡ s.waiting = ap (λ (ws : List (WaitingRow TraceNote)). map waiting_of ws) waiting_same in
+        let rows : (written_state_of new_own q).waiting ≡ s.waiting = ap (λ (ws : List (WaitingRow TraceNote)). map waiting_of ws) waiting_same in
         record {
           sound = pending_same n (pend ++ key ∷ []) (journal'.undo.gone.items ++ b.spans) other q same sound;
           first_is = h.first_is;
@@ -173,6 +173,7 @@ module _ (own : Pipeline) (p mid q : Part TraceNote) (moment : ℕ) (journal : J
           few = let k = kept_then in let few = h.few in omega (arith, few);
           clock_by = h.clock_by;
           reached_fits = h.reached_fits;
+          unsent_is = h.unsent_is;
         }
 
     posting_then : (other : List ℕ) → IsPosting moment journal other own p → IsPosting moment journal' other new q
@@ -184,7 +185,7 @@ module _ (own : Pipeline) (p mid q : Part TraceNote) (moment : ℕ) (journal : J
 
     pub late_came : Came (λ (t : State). grouped Undecided moment (x ∷ []) (counted_in t)) moment journal journal' own new p q
     late_came = record {
-      rules = subst (λ (o : Pipeline). state_of o q ≡ grouped Undecided moment (x ∷ []) (counted_in s)) (sym groups.same) state_is;
+      rules = subst (λ (o : Pipeline). written_state_of o q ≡ grouped Undecided moment (x ∷ []) (counted_in s)) (sym groups.same) state_is;
       posting = posting_then;
       texts = λ other again ks among. ap (λ (f : ℕ → Option CountedText). origin_at (text_at f) ks) change.texts ∙ ready.origin other again.holds.sound ks among;
       counted_by = let k = kept_then in omega arith;
@@ -199,7 +200,7 @@ module _ (own : Pipeline) (p : Part TraceNote) (moment : ℕ) (fits : counted ow
 
   pub lost_came : (journal journal' : Journal) → journal'.undo ≡ journal.undo → Came (λ (t : State). recount Undecided NotSampled 1 (counted_in t)) moment journal journal' own lost_own p p
   lost_came journal journal' undo_is =
-      let s : State = state_of own p in
+      let s : State = written_state_of own p in
       record {
         rules = refl;
         posting = λ other posting.
@@ -218,6 +219,7 @@ module _ (own : Pipeline) (p : Part TraceNote) (moment : ℕ) (fits : counted ow
               few = let few = h.few in omega (arith, few);
               clock_by = h.clock_by;
               reached_fits = h.reached_fits;
+              unsent_is = h.unsent_is;
             } in
             let moved_posting : IsPosting moment journal' other lost_own p = record {
               holds = subst (λ (u : Undo). PipelineInvariantAt moment u.gone.items other lost_own p) (sym undo_is) holds;
@@ -228,19 +230,3 @@ module _ (own : Pipeline) (p : Part TraceNote) (moment : ℕ) (fits : counted ow
         texts = λ other posting ks among. refl;
         counted_by = omega arith;
       }
-
--- ---- there is no room for a span
-
-pub none_came : (own : Pipeline) (p : Part TraceNote) (moment : ℕ) (journal journal' : Journal) → journal'.undo ≡ journal.undo → Came (λ (t : State). t) moment journal journal' own own p p
-none_came own p moment journal journal' undo_is = record {
-  rules = refl;
-  posting = λ other posting.
-      let moved_posting : IsPosting moment journal' other own p = record {
-        holds = subst (λ (u : Undo). PipelineInvariantAt moment u.gone.items other own p) (sym undo_is) posting.holds;
-        quiet = posting.quiet;
-        offers = let same = ap (λ (u : Undo). u.offers) undo_is in let few = posting.offers in omega (arith, same, few);
-      } in
-      moved_posting;
-  texts = λ other posting ks among. refl;
-  counted_by = omega arith;
-}

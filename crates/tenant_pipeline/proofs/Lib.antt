@@ -16,7 +16,11 @@ pub mod Deciding
 pub mod Ranges
 pub mod Firsts
 pub mod Settling
+pub mod Behind
+pub mod Unwritten
 pub mod Stepping
+pub mod Ahead
+pub mod Adding
 pub mod Acting
 pub mod Beginning
 pub mod Replies

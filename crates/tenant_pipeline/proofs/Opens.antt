@@ -33,7 +33,7 @@ use Rattle.tenant_pipeline.specs.declared.pipeline.RowCounts.{RowCounts}
 use Rattle.tenant_pipeline.specs.declared.journal.Journal.{Journal}
 use Rattle.otlp_prepare.specs.declared.noted.NotedSpan.{NotedSpan}
 use Rattle.tenant_pipeline.specs.declared.undo.Undo.{Undo}
-use Rattle.tenant_pipeline.specs.StateIn.{arrival_of, arrivals_of, settled_of, waiting_of, counts_in, policies_of, state_by, state_of}
+use Rattle.tenant_pipeline.specs.StateIn.{arrival_of, arrivals_of, settled_of, waiting_of, counts_in, policies_of, state_by, written_state_of}
 use Rattle.tenant_pipeline.specs.Invariant.{IsNoted, PipelineInvariantAt}
 use Rattle.tenant_pipeline.specs.Posts.{arrival_at, Came, IsComing, IsPosting, first_left, ledger_left}
 use Rattle.tenant_pipeline.proofs.Counting.{HasOne, fits_same, opens_fit, opens_in_time}
@@ -224,7 +224,7 @@ module _ (own : Pipeline) (p mid q : Part TraceNote) (moment : ℕ) (journal : J
     view (one_opened n) shown q ≡ with_opened span.trace due (texts_of (text_at mid.texts) kept_span) span.note (view n shown mid))
     (fits : counted own.ledger + 1 ≤ most_counted) (budget : own.ledger.places.undecided + own.ledger.places.pending < own.section.max_spans) where
   abbrev s : State
-  s = state_of own p
+  s = written_state_of own p
 
   abbrev x : Arrival
   x = arrival_at p keys span.text
@@ -286,7 +286,7 @@ module _ (own : Pipeline) (p mid q : Part TraceNote) (moment : ℕ) (journal : J
       let row : Path WaitingData (record { trace = span.trace; due = moment + wait; spans = arrival_of st ∷ [] }) (record { trace = trace_of x; due = moment + wait; spans = x ∷ [] }) = λ i. record { trace = trace_is i; due = moment + wait; spans = x_is i ∷ [] } in
       ap (λ (ws : List WaitingData). let y : State = record t { opened = own.rows.opened + 1; waiting = ws } in y) (rows ∙ ap (λ (r : WaitingData). map waiting_of w.waiting ++ r ∷ []) row)
 
-  state_is : state_of new q ≡ opens moment x (evicted (counted_in s))
+  state_is : written_state_of new q ≡ opens moment x (evicted (counted_in s))
   state_is =
       ap (state_by new) shown_q
       ∙ (opened_by (with_room num own.rows.opened v)
@@ -301,7 +301,7 @@ module _ (own : Pipeline) (p mid q : Part TraceNote) (moment : ℕ) (journal : J
       let h = posting.holds in
       let sound = ready.sound other h.sound in
       let one : HasOne s = record { budget = budget; few = fits } in
-      let all = fits_same (opens moment x (evicted (counted_in s))) (state_of new q) state_is (opens_fit moment x s num_some one (record { counted = h.counted; within = h.within })) in
+      let all = fits_same (opens moment x (evicted (counted_in s))) (written_state_of new q) state_is (opens_fit moment x s num_some one (record { counted = h.counted; within = h.within })) in
       let time = opens_in_time moment x s num_some one (record { counted = h.counted; within = h.within }) h.order h.due_by in
       let noted_mid : AllByRecursion (IsNoted (policies_of own)) v.waiting = subst (λ (w : View TraceNote). AllByRecursion (IsNoted (policies_of own)) w.waiting) (sym ready.shown) h.noted in
       let rest = with_room_noted (policies_of own) (nat_lt own.rows.opened num) v noted_mid in
@@ -319,6 +319,7 @@ module _ (own : Pipeline) (p mid q : Part TraceNote) (moment : ℕ) (journal : J
         few = few_then h.few;
         clock_by = h.clock_by;
         reached_fits = h.reached_fits;
+        unsent_is = h.unsent_is;
       } in
       record {
         holds = subst (λ (u : Undo). PipelineInvariantAt moment u.gone.items other new q) (sym undo_is) holds;

@@ -24,7 +24,7 @@ use Rattle.tenant_pipeline.specs.declared.pipeline.Pipeline.{Pipeline}
 use Rattle.tenant_pipeline.specs.declared.pipeline.RowCounts.{RowCounts}
 use Rattle.tenant_pipeline.specs.declared.journal.Journal.{Journal}
 use Rattle.tenant_pipeline.specs.declared.undo.Undo.{Undo}
-use Rattle.tenant_pipeline.specs.StateIn.{arrival_of, counts_in, state_of, view_in}
+use Rattle.tenant_pipeline.specs.StateIn.{arrival_of, counts_in, written_state_of, view_in}
 use Rattle.tenant_pipeline.specs.Invariant.{PipelineInvariantAt}
 use Rattle.tenant_pipeline.specs.Posts.{arrival_at, Came, IsPosting, IsWritten}
 use Rattle.tenant_pipeline.specs.Undo.{TakesBack, hits_undone}
@@ -130,7 +130,7 @@ ready_now own p mid moment journal keys text held span posting among kept =
 -- ---- a post's journal
 
 -- a span came by another name of the change, from a journal that is the same but for its room
-pub came_by : (change other : State → State) (moment : ℕ) (from to journal : Journal) (own own' : Pipeline) (p p' : Part TraceNote) → change (state_of own p) ≡ other (state_of own p) → to.undo ≡ from.undo →
+pub came_by : (change other : State → State) (moment : ℕ) (from to journal : Journal) (own own' : Pipeline) (p p' : Part TraceNote) → change (written_state_of own p) ≡ other (written_state_of own p) → to.undo ≡ from.undo →
     Came change moment from journal own own' p p' → Came other moment to journal own own' p p'
 came_by change other moment from to journal own own' p p' is undo_is came =
     let before : (held : List ℕ) → IsPosting moment to held own p → IsPosting moment from held own p = λ held posting.

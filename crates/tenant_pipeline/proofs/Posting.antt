@@ -32,7 +32,7 @@ use Rattle.tenant_pipeline.specs.declared.post.HeldOrigins.{HeldOrigins}
 use Rattle.tenant_pipeline.specs.Acts.{IsPosted}
 use Rattle.tenant_pipeline.specs.Invariant.{IsNoted, PipelineInvariantAt}
 use Rattle.tenant_pipeline.specs.Posts.{held_keys, AreHeldAt, CameNext, IsNext, IsPosting, IsSameTenant, IsTaken, IsWritten, IsWrittenWith, verdict_after}
-use Rattle.tenant_pipeline.specs.StateIn.{counts_in, policies_of, state_by, state_of, view_in}
+use Rattle.tenant_pipeline.specs.StateIn.{counts_in, policies_of, state_by, written_state_of, view_in}
 use Rattle.tenant_pipeline.proofs.Taking.{all_take, verdict_shifts, none_taken}
 
 -- ---- what always holds, where a part shows the same
@@ -44,7 +44,7 @@ swept_to k own = record own { rows = record own.rows { swept = k } }
 pub held_over : (moment k : ℕ) (gone gone' held held' : List ℕ) (own : Pipeline) (p q : Part TraceNote) → PipelineInvariantAt moment gone held own p →
     StoreInvariant (counts_in (swept_to k own)) (gone' ++ own.batcher.spans) held' q → view_in (swept_to k own) q ≡ view_in own p → PipelineInvariantAt moment gone' held' (swept_to k own) q
 held_over moment k gone gone' held held' own p q holds sound shows =
-    let state : state_of (swept_to k own) q ≡ state_of own p = ap (state_by own) shows in
+    let state : written_state_of (swept_to k own) q ≡ written_state_of own p = ap (state_by own) shows in
     record {
       sound = sound;
       first_is = holds.first_is;
@@ -58,6 +58,7 @@ held_over moment k gone gone' held held' own p q holds sound shows =
       few = holds.few;
       clock_by = holds.clock_by;
       reached_fits = holds.reached_fits;
+      unsent_is = holds.unsent_is;
     }
 
 -- ---- what is left out is counted
@@ -97,6 +98,7 @@ left_out_holds moment invalid over gone held own p holds fits =
       few = holds.few;
       clock_by = holds.clock_by;
       reached_fits = holds.reached_fits;
+      unsent_is = holds.unsent_is;
     }
 
 left_out_posting : (moment invalid over : ℕ) (journal : Journal) (held : List ℕ) (own : Pipeline) (p : Part TraceNote) → IsPosting moment journal held own p → counted own.ledger + (invalid + over) ≤ most_counted →
@@ -118,20 +120,20 @@ left_out_written invalid over journal start own first p written =
 
 -- a post of so many spans, of which some were valid and some of these taken, with what it leaves out
 pub record Posted (moment all some taken : ℕ) (journal : Journal) (held : List ℕ) (own own' : Pipeline) (p : Part TraceNote) (s : State) : Type 0 where
-  pub state : state_of own' p ≡ posted (verdict_of all some 0 taken) s (state_of own p)
+  pub state : written_state_of own' p ≡ posted (verdict_of all some 0 taken) s (written_state_of own p)
   pub posting : IsPosting moment journal held own' p
   pub written : (start : Pipeline) (first : Part TraceNote) → IsWritten journal start own first p → IsWritten journal start own' first p
   pub same : IsSameTenant own own'
 
 module _ (moment all some taken : ℕ) (journal : Journal) (held : List ℕ) (own own' : Pipeline) (p : Part TraceNote) (s : State)
-    (posting : IsPosting moment journal held own p) (none : taken ≡ 0 → state_of own p ≡ s) (most : some ≤ all) (few : taken ≤ some)
+    (posting : IsPosting moment journal held own p) (none : taken ≡ 0 → written_state_of own p ≡ s) (most : some ≤ all) (few : taken ≤ some)
     (fits : counted own.ledger + ((all - some) + (some - taken)) ≤ most_counted)
   where
     left : (invalid over : ℕ) → invalid + over ≤ (all - some) + (some - taken) → own' ≡ record own { ledger = left_out invalid over own.ledger } →
-        (state_of own' p ≡ record (state_of own p) { ledger = left_out invalid over own.ledger }) × IsPosting moment journal held own' p
+        (written_state_of own' p ≡ record (written_state_of own p) { ledger = left_out invalid over own.ledger }) × IsPosting moment journal held own' p
         × ((start : Pipeline) (first : Part TraceNote) → IsWritten journal start own first p → IsWritten journal start own' first p) × IsSameTenant own own'
     left invalid over less is = (
-      ap (λ (o : Pipeline). state_of o p) is,
+      ap (λ (o : Pipeline). written_state_of o p) is,
       subst (λ (o : Pipeline). IsPosting moment journal held o p) (sym is) (left_out_posting moment invalid over journal held own p posting (omega (arith, fits, less))),
       λ start first written. subst (λ (o : Pipeline). IsWritten journal start o first p) (sym is) (left_out_written invalid over journal start own first p written),
       record {
@@ -143,7 +145,7 @@ module _ (moment all some taken : ℕ) (journal : Journal) (held : List ℕ) (ow
     )
 
     abbrev Whole : Verdict → Type 0
-    Whole v = (state_of own' p ≡ posted v s (state_of own p)) × IsPosting moment journal held own' p
+    Whole v = (written_state_of own' p ≡ posted v s (written_state_of own p)) × IsPosting moment journal held own' p
         × ((start : Pipeline) (first : Part TraceNote) → IsWritten journal start own first p → IsWritten journal start own' first p) × IsSameTenant own own'
 
     by_tests : (a b : Bool) → nat_lt 0 taken ≡ a → IsPosted (cond a (accepted (all - some) (0 + some - taken)) (cond b (accepted (all - some) 0) exhausted)) own own' →
@@ -151,7 +153,7 @@ module _ (moment all some taken : ℕ) (journal : Journal) (held : List ℕ) (ow
     by_tests true b is post = left (all - some) (0 + some - taken) (omega arith) post
     by_tests false true is post = left (all - some) 0 (omega arith) post
     by_tests false false is post = (
-      ap (λ (o : Pipeline). state_of o p) post ∙ none (none_taken taken is),
+      ap (λ (o : Pipeline). written_state_of o p) post ∙ none (none_taken taken is),
       subst (λ (o : Pipeline). IsPosting moment journal held o p) (sym post) posting,
       λ start first written. subst (λ (o : Pipeline). IsWritten journal start o first p) (sym post) written,
       record {
@@ -182,7 +184,7 @@ itself own = record { tenant = refl; section = refl; clock = refl; drained = ref
 
 -- so many of the spans have come
 pub record Placing (moment : ℕ) (origins : List OriginTexts) (spans : List NotedSpan) (index : ℕ) (held0 held : HeldOrigins) (journal0 journal : Journal) (own0 own : Pipeline) (p0 p : Part TraceNote) : Type 0 where
-  pub rules : all_come moment (arrivals_in origins (drop index spans)) (state_of own p) ≡ all_come moment (arrivals_in origins spans) (state_of own0 p0)
+  pub rules : all_come moment (arrivals_in origins (drop index spans)) (written_state_of own p) ≡ all_come moment (arrivals_in origins spans) (written_state_of own0 p0)
   pub posting : IsPosting moment journal (held_keys held) own p
   pub held_at : AreHeldAt origins held p
   pub counted_by : counted own.ledger ≤ counted own0.ledger + index
@@ -227,7 +229,7 @@ module _ (moment : ℕ) (origins : List OriginTexts) (spans : List NotedSpan) (i
         let next : drop index spans ≡ span ∷ rest = drop_more spans index span within ∙ ap (λ (x : NotedSpan). x ∷ rest) (sym item) in
         record {
           rules = ap (all_come moment (arrivals_in origins rest)) came.rules
-              ∙ (ap (λ (xs : List NotedSpan). all_come moment (arrivals_in origins xs) (state_of own p)) (sym next) ∙ now.rules);
+              ∙ (ap (λ (xs : List NotedSpan). all_come moment (arrivals_in origins xs) (written_state_of own p)) (sym next) ∙ now.rules);
           posting = came.posting;
           held_at = came.held_at;
           counted_by = let c = came.counted_by in let n = now.counted_by in omega (arith, c, n);
@@ -237,9 +239,9 @@ module _ (moment : ℕ) (origins : List OriginTexts) (spans : List NotedSpan) (i
 
 -- all have come
 pub all_placed : (moment : ℕ) (origins : List OriginTexts) (spans : List NotedSpan) (index : ℕ) (held0 held : HeldOrigins) (journal0 journal : Journal) (own0 own : Pipeline) (p0 p : Part TraceNote) → Placing moment origins spans index held0 held journal0 journal own0 own p0 p →
-    length spans ≤ index → state_of own p ≡ all_come moment (arrivals_in origins spans) (state_of own0 p0)
+    length spans ≤ index → written_state_of own p ≡ all_come moment (arrivals_in origins spans) (written_state_of own0 p0)
 all_placed moment origins spans index held0 held journal0 journal own0 own p0 p now done =
-    ap (λ (xs : List NotedSpan). all_come moment (arrivals_in origins xs) (state_of own p)) (sym (drop_all index spans done)) ∙ now.rules
+    ap (λ (xs : List NotedSpan). all_come moment (arrivals_in origins xs) (written_state_of own p)) (sym (drop_all index spans done)) ∙ now.rules
 
 -- how many of them were taken
 pub record Count (spans : List NotedSpan) (own0 own : Pipeline) (s t : State) : Type 0 where
@@ -249,13 +251,13 @@ pub record Count (spans : List NotedSpan) (own0 own : Pipeline) (s t : State) : 
   pub counted_is : counted own.ledger ≡ counted own0.ledger + taken
   pub none : taken ≡ 0 → t ≡ s
 
-pub count_of : (moment : ℕ) (origins : List OriginTexts) (spans : List NotedSpan) (own0 own : Pipeline) (p0 p : Part TraceNote) → state_of own p ≡ all_come moment (arrivals_in origins spans) (state_of own0 p0) →
-    Count spans own0 own (state_of own0 p0) (state_of own p)
+pub count_of : (moment : ℕ) (origins : List OriginTexts) (spans : List NotedSpan) (own0 own : Pipeline) (p0 p : Part TraceNote) → written_state_of own p ≡ all_come moment (arrivals_in origins spans) (written_state_of own0 p0) →
+    Count spans own0 own (written_state_of own0 p0) (written_state_of own p)
 count_of moment origins spans own0 own p0 p is =
     let xs = arrivals_in origins spans in
-    let takes = all_take moment xs (state_of own0 p0) in
+    let takes = all_take moment xs (written_state_of own0 p0) in
     let size : length xs ≡ length spans = length-map spans (prepared.arrival_in origins) in
-    let l : own.ledger ≡ (all_come moment xs (state_of own0 p0)).ledger = ap (λ (s : State). s.ledger) is in
+    let l : own.ledger ≡ (all_come moment xs (written_state_of own0 p0)).ledger = ap (λ (s : State). s.ledger) is in
     let few = takes.few in
     record {
       taken = takes.count;
@@ -275,7 +277,7 @@ all_valid policies origins (span ∷ spans) ready = (ready.0.valid, all_valid po
 pub left_spans : (moment : ℕ) (journal : Journal) (gone held : List ℕ) (own : Pipeline) (p q : Part TraceNote) → gone ≡ journal.undo.gone.items → IsPosting moment journal held own p →
     ((n : Counts) (pending left kept : List ℕ) → ((key : ℕ) → count key gone + count key left ≡ count key pending) → StoreInvariant n pending kept p → StoreInvariant n left kept q) →
     ((n : Counts) (pending left kept shown : List ℕ) → ((key : ℕ) → count key gone + count key left ≡ count key pending) → StoreInvariant n pending kept p → AreAmong shown left → view n shown q ≡ view n shown p) →
-    (state_of own q ≡ state_of own p) × PipelineInvariantAt moment [] held own q
+    (written_state_of own q ≡ written_state_of own p) × PipelineInvariantAt moment [] held own q
 left_spans moment journal gone held own p q gone_is posting is_sound is_shown =
     let holds = posting.holds in
     let pending = journal.undo.gone.items ++ own.batcher.spans in
@@ -289,37 +291,37 @@ left_spans moment journal gone held own p q gone_is posting is_sound is_shown =
 
 -- the verdict of what came is that of what was counted
 pub verdict_is : (moment invalid valid taken : ℕ) (origins : List OriginTexts) (spans : List NotedSpan) (own0 own : Pipeline) (p0 p : Part TraceNote) →
-    state_of own p ≡ all_come moment (arrivals_in origins spans) (state_of own0 p0) → valid ≡ length spans → own.ledger.accepted ≡ own0.ledger.accepted + taken →
-    verdict_of (valid + invalid) valid own0.ledger.accepted (own0.ledger.accepted + taken) ≡ verdict_after (arrivals_in origins spans) invalid moment (state_of own0 p0)
+    written_state_of own p ≡ all_come moment (arrivals_in origins spans) (written_state_of own0 p0) → valid ≡ length spans → own.ledger.accepted ≡ own0.ledger.accepted + taken →
+    verdict_of (valid + invalid) valid own0.ledger.accepted (own0.ledger.accepted + taken) ≡ verdict_after (arrivals_in origins spans) invalid moment (written_state_of own0 p0)
 verdict_is moment invalid valid taken origins spans own0 own p0 p is many more =
     let xs = arrivals_in origins spans in
     let before = own0.ledger.accepted in
     let size : valid ≡ length xs = many ∙ sym (length-map spans (prepared.arrival_in origins)) in
-    let after : before + taken ≡ (all_come moment xs (state_of own0 p0)).ledger.accepted = sym more ∙ ap (λ (s : State). s.ledger.accepted) is in
+    let after : before + taken ≡ (all_come moment xs (written_state_of own0 p0)).ledger.accepted = sym more ∙ ap (λ (s : State). s.ledger.accepted) is in
     ap (λ (k : ℕ). verdict_of (k + invalid) k before (before + taken)) size ∙ ap (λ (k : ℕ). verdict_of (length xs + invalid) (length xs) before k) after
 
 -- the post of which all spans came
 pub record Ended (moment invalid valid taken : ℕ) (origins : List OriginTexts) (spans : List NotedSpan) (held : HeldOrigins) (journal : Journal) (own0 own own' : Pipeline) (p0 p : Part TraceNote) : Type 0 where
-  pub taken_is : IsTaken (arrivals_in origins spans) invalid moment (state_of own0 p0) (state_of own' p)
-  pub posted_is : Posted moment (valid + invalid) valid taken journal (held_keys held) own own' p (state_of own0 p0)
+  pub taken_is : IsTaken (arrivals_in origins spans) invalid moment (written_state_of own0 p0) (written_state_of own' p)
+  pub posted_is : Posted moment (valid + invalid) valid taken journal (held_keys held) own own' p (written_state_of own0 p0)
 
 pub ended : (moment invalid valid taken : ℕ) (origins : List OriginTexts) (spans : List NotedSpan) (index : ℕ) (held0 held : HeldOrigins) (journal0 journal : Journal) (own0 own own' : Pipeline) (p0 p : Part TraceNote) →
     Placing moment origins spans index held0 held journal0 journal own0 own p0 p → length spans ≤ index → valid ≡ length spans → taken ≡ own.ledger.accepted - own0.ledger.accepted →
     counted own0.ledger + (length spans + invalid) ≤ most_counted → IsPosted (verdict_of (valid + invalid) valid 0 taken) own own' → Ended moment invalid valid taken origins spans held journal own0 own own' p0 p
 ended moment invalid valid taken origins spans index held0 held journal0 journal own0 own own' p0 p now done many less fits post =
-    let s = state_of own0 p0 in
+    let s = written_state_of own0 p0 in
     let is = all_placed moment origins spans index held0 held journal0 journal own0 own p0 p now done in
     let count = count_of moment origins spans own0 own p0 p is in
     let more = count.accepted_is in
     let few = count.few in
     let all = count.counted_is in
     let same : taken ≡ count.taken = omega (arith, less, more) in
-    let none : taken ≡ 0 → state_of own p ≡ s = λ zero'. count.none (sym same ∙ zero') in
+    let none : taken ≡ 0 → written_state_of own p ≡ s = λ zero'. count.none (sym same ∙ zero') in
     let posted_ = post_is moment (valid + invalid) valid taken journal (held_keys held) own own' p s now.posting none (omega arith) (omega (arith, same, few, many)) (omega (arith, same, few, many, all, fits)) post in
     let verdict : verdict_of (valid + invalid) valid 0 taken ≡ verdict_after (arrivals_in origins spans) invalid moment s =
     sym (verdict_shifts (valid + invalid) valid own0.ledger.accepted taken) ∙ verdict_is moment invalid valid taken origins spans own0 own p0 p is many (omega (arith, more, same)) in
     record {
-      taken_is = posted_.state ∙ (ap (λ (v : Verdict). posted v s (state_of own p)) verdict ∙ ap (posted (verdict_after (arrivals_in origins spans) invalid moment s) s) is);
+      taken_is = posted_.state ∙ (ap (λ (v : Verdict). posted v s (written_state_of own p)) verdict ∙ ap (posted (verdict_after (arrivals_in origins spans) invalid moment s) s) is);
       posted_is = posted_;
     }
 
@@ -347,7 +349,7 @@ on_err_then (Err e) f p = f p
 pub body_left : (moment : ℕ) (own : Pipeline) (keys : List ℕ) (p q : Part TraceNote) → PipelineInvariantAt moment [] keys own p →
     ((n : Counts) (pending held : List ℕ) → StoreInvariant n pending (keys ++ held) p → StoreInvariant n pending held q) →
     ((n : Counts) (pending held shown : List ℕ) → StoreInvariant n pending (keys ++ held) p → AreAmong shown pending → view n shown q ≡ view n shown p) →
-    (state_of own q ≡ state_of own p) × PipelineInvariantAt moment [] [] own q
+    (written_state_of own q ≡ written_state_of own p) × PipelineInvariantAt moment [] [] own q
 body_left moment own keys p q holds is_sound shows =
     let n = counts_in own in
     let pending = own.batcher.spans in

@@ -1,10 +1,7 @@
 -- Batches that are offered, by what is a tenant's own.
-use Rattle.std.proofs.Common.{◌≡◌, ◌<◌, ◌≤◌, ◌+◌, ◌-◌, ◌++◌, ◌∙◌, ℕ, zero, suc, List, [], ◌∷◌, length, take, refl, ap, arith, Bool, true, false, cond, None, length-append}
-use Rattle.std.proofs.lemmas.Bool.Decides.{nat_tests}
-use Rattle.std.proofs.Math.Seq.{take-append_seam}
-use Rattle.drop_ledger.specs.Ledger.{moved}
+use Rattle.std.proofs.Common.{◌≡◌, ◌≤◌, ◌+◌, ◌++◌, ◌∙◌, ℕ, zero, suc, List, [], ◌∷◌, refl, ap, arith, Bool, true, false, cond, None}
 use Rattle.drop_ledger.specs.declared.places.Place.TheVariants.{Pending, Queued, QueueFull}
-use Rattle.send_queue.specs.Sender.{BatchData, SenderData, is_full, offered, taken_back}
+use Rattle.send_queue.specs.Sender.{BatchData, SenderData, is_full, taken_back}
 use Rattle.tail_settings.specs.Section.{section_view}
 use Rattle.tail_settings.specs.SendingQueue.{SendingQueueData}
 use Rattle.tenant_rules.specs.Sender.{sizes}
@@ -13,34 +10,6 @@ use Rattle.tenant_rules.specs.State.{State}
 use Rattle.tenant_rules.specs.Timers.{recount, queued, all_queued}
 use Rattle.tenant_pipeline.specs.declared.pipeline.Pipeline.{Pipeline}
 use Rattle.tenant_pipeline.specs.Outbox.{undone, Sends, Took}
-
--- a batch that the queue takes, and one that it doesn't
-pub queued_taken : (b : BatchData) (s : State) → is_full s.sender ≡ false →
-    queued b s ≡ record s { sender = record s.sender { queue = s.sender.queue ++ b ∷ [] }; ledger = moved Pending Queued b.spans s.ledger }
-queued_taken b s room = rw room refl
-
-pub queued_full : (b : BatchData) (s : State) → is_full s.sender ≡ true →
-    queued b s ≡ record s { ledger = moved Pending QueueFull b.spans s.ledger }
-queued_full b s full = rw full refl
-
--- the sender that took a batch gives it back
-back_one : (b : BatchData) (s : SenderData) → is_full s ≡ false → taken_back (offered b s) ≡ s
-back_one b s room =
-    let all : length (s.queue ++ b ∷ []) ≡ length s.queue + 1 = length-append s.queue (b ∷ []) in
-    let n : length (s.queue ++ b ∷ []) - 1 ≡ length s.queue = omega (arith, all) in
-    let queue : take (length (s.queue ++ b ∷ []) - 1) (s.queue ++ b ∷ []) ≡ s.queue = ap (λ (k : ℕ). take k (s.queue ++ b ∷ [])) n ∙ take-append_seam s.queue (b ∷ []) in
-    rw room (ap (λ (bs : List BatchData). let z : SenderData = record s { queue = bs } in z) queue)
-
-pub took_one : (b : BatchData) (s : SenderData) → is_full s ≡ false → Took 1 s (offered b s)
-took_one b s room =
-    let longer : length (offered b s).queue ≡ length s.queue + 1 = rw room (length-append s.queue (b ∷ [])) in
-    let few : length s.queue < s.sending.queue_size = grind (arith, nat_tests, room) in
-    record {
-      back = back_one b s room;
-      count = longer;
-      settings = rw room refl;
-      room = λ fits. omega (arith, longer, few);
-    }
 
 pub took_none : (s : SenderData) → Took 0 s s
 took_none s = record { back = refl; count = omega arith; settings = refl; room = λ fits. fits }

@@ -24,10 +24,11 @@ use Rattle.tenant_rules.proofs.Counted.{steps_count}
 use Rattle.tenant_rules.proofs.Limits.{steps_stay_within}
 use Rattle.tenant_pipeline.specs.declared.pipeline.Pipeline.{Pipeline}
 use Rattle.tenant_pipeline.specs.Acts.{ActsAt, at}
-use Rattle.tenant_pipeline.specs.Invariant.{PipelineInvariant, PipelineInvariantAt}
+use Rattle.tenant_pipeline.specs.Invariant.{PipelineInvariant, PipelineInvariantAt, PipelineInvariantFrom}
 use Rattle.tenant_pipeline.specs.Outbox.{Sends}
-use Rattle.tenant_pipeline.specs.StateIn.{part_in, state_in, state_of}
+use Rattle.tenant_pipeline.specs.StateIn.{part_in, state_in, state_of, written_state_in, written_state_of}
 use Rattle.tenant_pipeline.specs.Steps.{Answers, FollowsFromState}
+use Rattle.tenant_pipeline.proofs.Behind.{from_written, state_none}
 use Rattle.tenant_pipeline.proofs.Ranges.{batch_sound}
 
 -- ---- what a past gives
@@ -63,12 +64,12 @@ next_alone step moment s now none =
 -- ---- what is sent
 
 -- the sender and the counters change as the rules have it
-pub sent_acts : (change : State → State) (moment : ℕ) (own sent : Pipeline) (p : Part TraceNote) → Sends change own sent → ActsAt moment change (state_of own p) (state_of sent p)
+pub sent_acts : (change : State → State) (moment : ℕ) (own sent : Pipeline) (p : Part TraceNote) → Sends change own sent → ActsAt moment change (written_state_of own p) (written_state_of sent p)
 sent_acts change moment own sent p sends =
-    let ready : State = at moment (state_of own p) in
+    let ready : State = at moment (written_state_of own p) in
     let made : change ready ≡ record ready { sender = sent.sender; ledger = sent.ledger } = sends.rules ready refl refl in
-    let same : at moment (state_of sent p) ≡ record ready { sender = sent.sender; ledger = sent.ledger } =
-    ap (λ (o : Pipeline). at moment (state_of o p)) sends.same in
+    let same : at moment (written_state_of sent p) ≡ record ready { sender = sent.sender; ledger = sent.ledger } =
+    ap (λ (o : Pipeline). at moment (written_state_of o p)) sends.same in
     same ∙ sym made
 
 -- by a call that was refused memory, nothing
@@ -113,16 +114,16 @@ within_with moment clock s within = record {
 
 -- a step asks for its moment, by which no timer is due, and changes the sender and the counters alone: what always holds
 -- goes on to hold
-sent_holds : (step : Own) (moment : ℕ) (own sent : Pipeline) (p : Part TraceNote) → asked step ≡ moment → PipelineInvariantAt moment [] [] own p → is_due (next_timer (state_of own p)) moment ≡ false →
-    Sends (acts moment step) own sent → (acts moment step (state_of own p)).ledger.accepted ≡ own.ledger.accepted → PipelineInvariantAt moment [] [] sent p
-sent_holds step moment own sent p now holds none sends taken =
-    let s : State = state_of own p in
+sent_holds : (step : Own) (moment : ℕ) (gone : List ℕ) (own sent : Pipeline) (p : Part TraceNote) → asked step ≡ moment → PipelineInvariantAt moment gone [] own p → is_due (next_timer (written_state_of own p)) moment ≡ false →
+    Sends (acts moment step) own sent → (acts moment step (written_state_of own p)).ledger.accepted ≡ own.ledger.accepted → PipelineInvariantAt moment gone [] sent p
+sent_holds step moment gone own sent p now holds none sends taken =
+    let s : State = written_state_of own p in
     let effect : effective step s ≡ moment = omega (arith, now, holds.clock_by, holds.reached_fits) in
-    let after : next step s ≡ at moment (state_of sent p) = next_alone step moment s effect none ∙ sym (sent_acts (acts moment step) moment own sent p sends) in
-    let counted : IsCounted (at moment (state_of sent p)) = subst IsCounted after (steps_count step s holds.counted) in
-    let within : IsWithinLimits (at moment (state_of sent p)) = subst IsWithinLimits after (steps_stay_within step s own.section.tail_sampling.num_traces_range.0 holds.within) in
+    let after : next step s ≡ at moment (written_state_of sent p) = next_alone step moment s effect none ∙ sym (sent_acts (acts moment step) moment own sent p sends) in
+    let counted : IsCounted (at moment (written_state_of sent p)) = subst IsCounted after (steps_count step s holds.counted) in
+    let within : IsWithinLimits (at moment (written_state_of sent p)) = subst IsWithinLimits after (steps_stay_within step s own.section.tail_sampling.num_traces_range.0 holds.within) in
     let accepted : (acts moment step s).ledger.accepted ≡ sent.ledger.accepted = ap (λ (z : State). z.ledger.accepted) (sends.rules s refl refl) in
-    subst (λ (o : Pipeline). PipelineInvariantAt moment [] [] o p) (sym sends.same) (record {
+    subst (λ (o : Pipeline). PipelineInvariantAt moment gone [] o p) (sym sends.same) (record {
       sound = holds.sound;
       first_is = holds.first_is;
       noted = holds.noted;
@@ -130,40 +131,52 @@ sent_holds step moment own sent p now holds none sends taken =
       order = holds.order;
       due_by = holds.due_by;
       timer = holds.timer;
-      counted = subst (λ (o : Pipeline). IsCounted (state_of o p)) sends.same (counted_with moment sent.clock (state_of sent p) counted);
-      within = subst (λ (o : Pipeline). IsWithinLimits (state_of o p)) sends.same (within_with moment sent.clock (state_of sent p) within);
+      counted = subst (λ (o : Pipeline). IsCounted (written_state_of o p)) sends.same (counted_with moment sent.clock (written_state_of sent p) counted);
+      within = subst (λ (o : Pipeline). IsWithinLimits (written_state_of o p)) sends.same (within_with moment sent.clock (written_state_of sent p) within);
       few = omega (arith, holds.few, taken, accepted);
       clock_by = holds.clock_by;
       reached_fits = holds.reached_fits;
+      unsent_is = holds.unsent_is;
     })
 
--- over the stores, of the same tenant
-pub record Sent (step : Own) (moment : ℕ) (own sent : Pipeline) (stores : Stores TraceNote) : Type 0 where
-  pub change : ActsAt moment (acts moment step) (state_in own stores) (state_in sent stores)
-  pub holds : PipelineInvariantAt moment [] [] sent (part_in sent stores)
+-- of a part of the stores
+pub record Sent (step : Own) (moment : ℕ) (gone : List ℕ) (own sent : Pipeline) (p : Part TraceNote) : Type 0 where
+  pub change : ActsAt moment (acts moment step) (written_state_of own p) (written_state_of sent p)
+  pub holds : PipelineInvariantAt moment gone [] sent p
 
-sent_over : (step : Own) (moment : ℕ) (own sent : Pipeline) (stores : Stores TraceNote) → sent.tenant ≡ own.tenant → ActsAt moment (acts moment step) (state_in own stores) (state_of sent (part_in own stores)) →
-    PipelineInvariantAt moment [] [] sent (part_in own stores) → Sent step moment own sent stores
-sent_over step moment own sent stores tenant change holds = record {
-  change = subst (λ (t : ℕ). ActsAt moment (acts moment step) (state_in own stores) (state_of sent (part t stores))) (sym tenant) change;
-  holds = subst (λ (t : ℕ). PipelineInvariantAt moment [] [] sent (part t stores)) (sym tenant) holds;
-}
+module _ (now moment : ℕ) (gone : List ℕ) (own sent : Pipeline) (p : Part TraceNote) (holds : PipelineInvariantAt moment gone [] own p) (none : is_due (next_timer (written_state_of own p)) moment ≡ false) where
+  -- a worker asks for a job
+  pub turn_sent : Sends (turned moment) own sent → Sent (Turn now) moment gone own sent p
+  turn_sent sends = record {
+    change = sent_acts (turned moment) moment own sent p sends;
+    holds = sent_holds (Turn moment) moment gone own sent p refl holds none sends (turned_taken moment (choice moment own.sender) (written_state_of own p));
+  }
 
--- a worker asks for a job
-pub turn_sent : (now moment : ℕ) (own sent : Pipeline) (stores : Stores TraceNote) → PipelineInvariantAt moment [] [] own (part_in own stores) → is_due (next_timer (state_in own stores)) moment ≡ false →
-    Sends (turned moment) own sent → Sent (Turn now) moment own sent stores
-turn_sent now moment own sent stores holds none sends =
+  -- a back end answers
+  pub answer_sent : (ticket word : ℕ) (given : AnswerData) → Sends (settled ticket moment word given) own sent → Sent (Answer now ticket word given) moment gone own sent p
+  answer_sent ticket word given sends = record {
+    change = sent_acts (settled ticket moment word given) moment own sent p sends;
+    holds = sent_holds (Answer moment ticket word given) moment gone own sent p refl holds none sends (moved_taken (ended_in_flight moment word given (in_flight ticket own.sender)) own.ledger);
+  }
+
+-- over the stores, of the same tenant, whose batches are all written
+pub record SentOver (step : Own) (moment : ℕ) (own sent : Pipeline) (stores : Stores TraceNote) : Type 0 where
+  pub change : ActsAt moment (acts moment step) (written_state_in own stores) (state_in sent stores)
+  pub holds : PipelineInvariantFrom moment sent (part_in sent stores)
+
+pub sent_over : (step : Own) (moment : ℕ) (own sent : Pipeline) (stores : Stores TraceNote) → sent.tenant ≡ own.tenant → Sent step moment [] own sent (part_in own stores) → SentOver step moment own sent stores
+sent_over step moment own sent stores tenant done =
     let p = part_in own stores in
-    sent_over (Turn now) moment own sent stores (ap (λ (o : Pipeline). o.tenant) sends.same) (sent_acts (turned moment) moment own sent p sends)
-    (sent_holds (Turn moment) moment own sent p refl holds none sends (turned_taken moment (choice moment own.sender) (state_of own p)))
+    let change : ActsAt moment (acts moment step) (written_state_in own stores) (state_of sent p) =
+    subst (λ (s : State). ActsAt moment (acts moment step) (written_state_in own stores) s) (sym (state_none sent p done.holds.unsent_is)) done.change in
+    record {
+      change = subst (λ (t : ℕ). ActsAt moment (acts moment step) (written_state_in own stores) (state_of sent (part t stores))) (sym tenant) change;
+      holds = subst (λ (t : ℕ). PipelineInvariantFrom moment sent (part t stores)) (sym tenant) (from_written moment sent p done.holds);
+    }
 
--- a back end answers
-pub answer_sent : (now ticket word moment : ℕ) (given : AnswerData) (own sent : Pipeline) (stores : Stores TraceNote) → PipelineInvariantAt moment [] [] own (part_in own stores) →
-    is_due (next_timer (state_in own stores)) moment ≡ false → Sends (settled ticket moment word given) own sent → Sent (Answer now ticket word given) moment own sent stores
-answer_sent now ticket word moment given own sent stores holds none sends =
-    let p = part_in own stores in
-    sent_over (Answer now ticket word given) moment own sent stores (ap (λ (o : Pipeline). o.tenant) sends.same) (sent_acts (settled ticket moment word given) moment own sent p sends)
-    (sent_holds (Answer moment ticket word given) moment own sent p refl holds none sends (moved_taken (ended_in_flight moment word given (in_flight ticket own.sender)) own.ledger))
+-- the rules see the same of such a tenant either way
+pub seen_same : (moment : ℕ) (own : Pipeline) (stores : Stores TraceNote) → PipelineInvariantAt moment [] [] own (part_in own stores) → state_in own stores ≡ written_state_in own stores
+seen_same moment own stores holds = state_none own (part_in own stores) holds.unsent_is
 
 -- ---- a step is done
 

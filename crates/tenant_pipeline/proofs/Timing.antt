@@ -31,7 +31,7 @@ use Rattle.tenant_rules.proofs.Fronts.{ran_none, ran-more, enough_done, due_firs
 use Rattle.tenant_rules.proofs.Limits.{fronts_stay_within}
 use Rattle.tenant_rules.proofs.Sums.{fixed_of, kept_of, ran_kept}
 use Rattle.tenant_pipeline.specs.declared.pipeline.Pipeline.{Pipeline}
-use Rattle.tenant_pipeline.specs.StateIn.{settled_of, waiting_of, counts_in, policies_of, state_by, state_of, view_in}
+use Rattle.tenant_pipeline.specs.StateIn.{settled_of, waiting_of, counts_in, policies_of, state_by, written_state_of, view_in}
 use Rattle.tenant_pipeline.specs.Invariant.{IsNoteOf, IsFrom}
 use Rattle.tenant_pipeline.specs.Outbox.{arrivals_at, pending_at}
 
@@ -108,12 +108,12 @@ all_ran moment n s t is quiet =
 
 module _ (own : Pipeline) (p q : Part TraceNote) where
   abbrev s : State
-  s = state_of own p
+  s = written_state_of own p
 
   -- all that was pending left
   pub flush_is : (due : ℕ) (sender : SenderData) (ledger : LedgerData) → view (counts_in own) [] q ≡ view (counts_in own) [] p →
       ((t : State) → t.sender ≡ own.sender → t.ledger ≡ own.ledger → queued (as_sent (record { moment = due; spans = arrivals_at p own.batcher.spans })) t ≡ record t { sender = sender; ledger = ledger }) →
-      state_of (record own { batcher = fired own.batcher; sender = sender; ledger = ledger; clock = due }) q ≡ flushed (Some due) s
+      written_state_of (record own { batcher = fired own.batcher; sender = sender; ledger = ledger; clock = due }) q ≡ flushed (Some due) s
   flush_is due sender ledger shows sends =
       let new : Pipeline = record own { batcher = fired own.batcher; sender = sender; ledger = ledger; clock = due } in
       ap (state_by new) shows ∙ sym (sends (record s { clock = due; pending = fired s.pending }) refl refl)
@@ -136,7 +136,7 @@ module _ (own : Pipeline) (p q : Part TraceNote) where
     -- its spans left
     pub drop_is : (caches : CachesData) → shown caches ≡ noted_in false first.trace (shown own.caches) → (n : ℕ) → n ≡ length first.spans → are_sampled (policies_of own) first.spans ≡ false →
         view (one_decided (counts_in own)) own.batcher.spans q ≡ record (view_in own p) { settled = (view_in own p).settled ++ record { trace = w.trace; sampled = false } ∷ []; waiting = rest } →
-        state_of (record own { rows = record own.rows { decided = own.rows.decided + 1 }; clock = first.due; ledger = moved Undecided NotSampled n own.ledger; caches = caches }) q ≡ decide s.waiting s
+        written_state_of (record own { rows = record own.rows { decided = own.rows.decided + 1 }; clock = first.due; ledger = moved Undecided NotSampled n own.ledger; caches = caches }) q ≡ decide s.waiting s
     drop_is caches noted n size verdict shows =
         let new : Pipeline = record own { rows = record own.rows { decided = own.rows.decided + 1 }; clock = first.due; ledger = moved Undecided NotSampled n own.ledger; caches = caches } in
         let settled : map settled_of ((view_in own p).settled ++ record { trace = w.trace; sampled = false } ∷ []) ≡ s.settled ++ record { trace = first.trace; sampled = false } ∷ [] = map-append settled_of (view_in own p).settled (record { trace = w.trace; sampled = false } ∷ []) in
@@ -153,7 +153,7 @@ module _ (own : Pipeline) (p q : Part TraceNote) where
           waiting = rest;
           pending = (view (counts_in own) b.spans p).pending;
         } →
-        state_of (record own { rows = record own.rows { decided = own.rows.decided + 1 }; clock = first.due; batcher = b; sender = sender; ledger = ledger; caches = caches }) q ≡ decide s.waiting s
+        written_state_of (record own { rows = record own.rows { decided = own.rows.decided + 1 }; clock = first.due; batcher = b; sender = sender; ledger = ledger; caches = caches }) q ≡ decide s.waiting s
     keep_is caches noted b sender ledger verdict groups shows =
         let new : Pipeline = record own { rows = record own.rows { decided = own.rows.decided + 1 }; clock = first.due; batcher = b; sender = sender; ledger = ledger; caches = caches } in
         let settled : map settled_of ((view_in own p).settled ++ record { trace = w.trace; sampled = true } ∷ []) ≡ s.settled ++ record { trace = first.trace; sampled = true } ∷ [] = map-append settled_of (view_in own p).settled (record { trace = w.trace; sampled = true } ∷ []) in

@@ -24,7 +24,7 @@ use Rattle.tenant_rules.specs.State.{State}
 use Rattle.tenant_rules.specs.Timers.{grouped, recount}
 use Rattle.tenant_pipeline.specs.declared.pipeline.Pipeline.{Pipeline}
 use Rattle.tenant_pipeline.specs.declared.place.TraceState.TheVariants as states
-use Rattle.tenant_pipeline.specs.StateIn.{arrival_of, arrivals_of, counts_in, settled_of, state_of, waiting_of}
+use Rattle.tenant_pipeline.specs.StateIn.{arrival_of, arrivals_of, counts_in, settled_of, written_state_of, waiting_of}
 use Rattle.tenant_pipeline.specs.Posts.{IsTraceState, IsTraceStateAt, state_by_cache}
 use Rattle.tenant_pipeline.specs.Invariant.{IsNoteOf, IsNoted}
 
@@ -140,7 +140,7 @@ module _ (policies : List PolicyData) (trace : List ℕ) (span : SpanTexts) (not
 
 module _ (own : Pipeline) (p : Part TraceNote) (trace : List ℕ) where
   -- by what the caches know, where no row is present
-  pub is_absent : (known : Option Bool) → found trace (shown_caches own.caches) ≡ known → ShowsNone (counts_in own) trace p → IsTraceState trace (state_by_cache known) (state_of own p)
+  pub is_absent : (known : Option Bool) → found trace (shown_caches own.caches) ≡ known → ShowsNone (counts_in own) trace p → IsTraceState trace (state_by_cache known) (written_state_of own p)
   is_absent None is none = (has_row_is trace (waiting_in (counts_in own) p) ∙ none.waiting, sampled_is trace (settled_in (counts_in own) p) ∙ none.settled, is)
   is_absent (Some sampled) is none = (has_row_is trace (waiting_in (counts_in own) p) ∙ none.waiting, sampled_is trace (settled_in (counts_in own) p) ∙ none.settled, is)
 
@@ -148,10 +148,10 @@ module _ (own : Pipeline) (p : Part TraceNote) (trace : List ℕ) where
   absent_at None = tt
   absent_at (Some sampled) = tt
 
-  pub is_decided : (number : ℕ) (shows : ShowsDecided (counts_in own) trace number p) → IsTraceState trace (states.Decided shows.row.sampled) (state_of own p)
+  pub is_decided : (number : ℕ) (shows : ShowsDecided (counts_in own) trace number p) → IsTraceState trace (states.Decided shows.row.sampled) (written_state_of own p)
   is_decided number shows = (has_row_is trace (waiting_in (counts_in own) p) ∙ shows.waiting, sampled_is trace (settled_in (counts_in own) p) ∙ shows.settled)
 
-  pub it_waits : (number : ℕ) → ShowsWaiting (counts_in own) trace number p → IsTraceState trace (states.Waits number) (state_of own p)
+  pub it_waits : (number : ℕ) → ShowsWaiting (counts_in own) trace number p → IsTraceState trace (states.Waits number) (written_state_of own p)
   it_waits number shows = has_row_is trace (waiting_in (counts_in own) p) ∙ shows.waiting
 
 -- ---- where a span goes

@@ -1,6 +1,6 @@
 -- Rows that wait have their verdicts: what a part has and shows then.
-use Rattle.std.proofs.Common.{◌≡◌, ◌<◌, ◌≤◌, ◌+◌, ◌-◌, ◌++◌, ◌∙◌, ℕ, zero, suc, List, [], refl, sym, ap, arith, Bool, true, false, cond, Option, Some, None}
-use Rattle.span_pool.specs.Stored.{StoredData}
+use Rattle.std.proofs.Common.{◌≡◌, ◌<◌, ◌≤◌, ◌+◌, ◌-◌, ◌++◌, ◌∙◌, ℕ, zero, suc, List, [], ◌∷◌, refl, sym, ap, arith, append-nil, append_assoc, Bool, true, false, cond, Option, Some, None}
+use Rattle.span_pool.specs.Stored.{StoredData, SpanTexts}
 use Rattle.text_pool.specs.declared.pool.CountedText.{CountedText}
 use Rattle.tail_policy.specs.declared.note.TraceNote.{TraceNote}
 use Rattle.tail_policy.specs.Note.{verdict_of}
@@ -9,12 +9,15 @@ use Rattle.trace_rows.specs.declared.table.Row.{Row}
 use Rattle.trace_rows.specs.Part.{with_at, keys_of}
 use Rattle.tenant_stores.specs.Part.{Part}
 use Rattle.tenant_stores.specs.Counts.{Counts, AreInOrder, range, settled_numbers, waiting_numbers}
-use Rattle.tenant_stores.specs.View.{SettledRow, as_waiting, as_settled, waiting_rows, settled_rows, view}
-use Rattle.tenant_stores.specs.Shows.{settled_in, waiting_in}
+use Rattle.tenant_stores.specs.Invariant.{StoreInvariant}
+use Rattle.tenant_stores.specs.View.{SettledRow, WaitingRow, View, as_waiting, as_settled, waiting_rows, settled_rows, spans_at, view}
+use Rattle.tenant_stores.specs.Shows.{settled_in, waiting_in, row_shown, kept_by, first_kept, dropped_by, first_dropped}
 use Rattle.tenant_stores.proofs.Lists.{range-append, front_of}
+use Rattle.tenant_stores.proofs.Rooms.{first_is_shown}
 use Rattle.tenant_stores.proofs.Rows.{row_other, row_either}
 use Rattle.tenant_stores.proofs.Shown.{settled-append, view_by}
-use Rattle.tenant_pipeline.specs.Drains.{keys_if, sampled_keys, all_settled, verdict_given}
+use Rattle.tenant_pipeline.specs.Drains.{keys_if, sampled_keys, sampled_spans, spans_left, all_settled, verdict_given}
+use Rattle.tenant_pipeline.proofs.Spans.{spans_at-append}
 
 -- the rows after a number and up to another one have their verdicts, and all others are as they were
 pub record Given (policies : List PolicyData) (a d : ℕ) (old new : ℕ → Option (Row TraceNote)) : Type 0 where
@@ -112,3 +115,57 @@ module _ (policies : List PolicyData) where
   -- and none, where it isn't
   pub keys_dropped : (slot : Option (Row TraceNote)) (row : Row TraceNote) → slot ≡ Some row → verdict_of policies row.note ≡ false → keys_if policies slot ≡ []
   keys_dropped slot row is verdict = ap (keys_if policies) is ∙ ap (λ (b : Bool). cond b row.keys []) verdict
+
+  -- ---- spans that wait for a batch once all rows have their verdicts
+
+  -- the first row that waits
+  pub row_first : (n : Counts) (pending : List ℕ) (p : Part TraceNote) (number : ℕ) (row : Row TraceNote) → StoreInvariant n pending [] p → number ≡ n.decided + 1 → number ≤ n.opened → p.rows number ≡ Some row →
+      (rest : List (WaitingRow TraceNote)) × (waiting_in n p ≡ row_shown p row ∷ rest)
+  row_first n pending p number row sound next most is =
+      let f = first_is_shown TraceNote n pending [] p sound (omega (arith, next, most)) in
+      let slot : Path (Option (Row TraceNote)) (Some row) (Some f.row) = sym is ∙ (ap p.rows next ∙ f.there) in
+      let same : row ≡ f.row = cc in
+      (f.rest, f.waiting ∙ ap (λ (r : Row TraceNote). row_shown p r ∷ f.rest) (sym same))
+
+  -- are the same once it is sampled
+  pub left_kept : (v : View TraceNote) (w : WaitingRow TraceNote) (rest : List (WaitingRow TraceNote)) → v.waiting ≡ w ∷ rest → verdict_of policies w.note ≡ true → spans_left policies (first_kept v) ≡ spans_left policies v
+  left_kept v w rest waiting verdict =
+      ap (λ (ws : List (WaitingRow TraceNote)). spans_left policies (kept_by ws v)) waiting
+      ∙ (append_assoc v.pending w.spans (sampled_spans policies rest)
+      ∙ (sym (ap (λ (b : Bool). v.pending ++ (cond b w.spans [] ++ sampled_spans policies rest)) verdict)
+      ∙ sym (ap (λ (ws : List (WaitingRow TraceNote)). v.pending ++ sampled_spans policies ws) waiting)))
+
+  -- and once it isn't
+  pub left_dropped : (v : View TraceNote) (w : WaitingRow TraceNote) (rest : List (WaitingRow TraceNote)) → v.waiting ≡ w ∷ rest → verdict_of policies w.note ≡ false → spans_left policies (first_dropped v) ≡ spans_left policies v
+  left_dropped v w rest waiting verdict =
+      ap (λ (ws : List (WaitingRow TraceNote)). spans_left policies (dropped_by ws v)) waiting
+      ∙ (sym (ap (λ (b : Bool). v.pending ++ (cond b w.spans [] ++ sampled_spans policies rest)) verdict)
+      ∙ sym (ap (λ (ws : List (WaitingRow TraceNote)). v.pending ++ sampled_spans policies ws) waiting))
+
+  keys_shown : (p : Part TraceNote) (b : Bool) (keys : List ℕ) → spans_at p.spans p.texts (cond b keys []) ≡ cond b (spans_at p.spans p.texts keys) []
+  keys_shown p true keys = refl
+  keys_shown p false keys = refl
+
+  -- those of rows are at their keys
+  row_shown_at : (p : Part TraceNote) (numbers : List ℕ) (o : Option (Row TraceNote)) → sampled_spans policies (waiting_rows p.spans p.texts p.rows numbers) ≡ spans_at p.spans p.texts (sampled_keys policies p.rows numbers) →
+      sampled_spans policies (as_waiting p.spans p.texts o ++ waiting_rows p.spans p.texts p.rows numbers) ≡ spans_at p.spans p.texts (keys_if policies o ++ sampled_keys policies p.rows numbers)
+  row_shown_at p numbers None rest = rest
+  row_shown_at p numbers (Some row) rest =
+      let b = verdict_of policies row.note in
+      ap (λ (ss : List SpanTexts). cond b (spans_at p.spans p.texts row.keys) [] ++ ss) rest
+      ∙ (ap (λ (ss : List SpanTexts). ss ++ spans_at p.spans p.texts (sampled_keys policies p.rows numbers)) (sym (keys_shown p b row.keys))
+      ∙ sym (spans_at-append p (cond b row.keys []) (sampled_keys policies p.rows numbers)))
+
+  pub sampled_shown : (p : Part TraceNote) (numbers : List ℕ) → sampled_spans policies (waiting_rows p.spans p.texts p.rows numbers) ≡ spans_at p.spans p.texts (sampled_keys policies p.rows numbers)
+  sampled_shown p [] = refl
+  sampled_shown p (number ∷ numbers) = row_shown_at p numbers (p.rows number) (sampled_shown p numbers)
+
+  -- before any row has its verdict, and after all have
+  pub left_first : (n : Counts) (pending : List ℕ) (p : Part TraceNote) → spans_left policies (view n pending p) ≡ spans_at p.spans p.texts (pending ++ sampled_keys policies p.rows (waiting_numbers n))
+  left_first n pending p =
+      ap (λ (ss : List SpanTexts). spans_at p.spans p.texts pending ++ ss) (sampled_shown p (waiting_numbers n)) ∙ sym (spans_at-append p pending (sampled_keys policies p.rows (waiting_numbers n)))
+
+  pub left_last : (n : Counts) (keys : List ℕ) (p : Part TraceNote) → n.opened ≤ n.decided → spans_left policies (view n keys p) ≡ spans_at p.spans p.texts keys
+  left_last n keys p all =
+      let none : n.opened - n.decided ≡ 0 = omega (arith, all) in
+      ap (λ (k : ℕ). spans_at p.spans p.texts keys ++ sampled_spans policies (waiting_rows p.spans p.texts p.rows (range n.decided k))) none ∙ append-nil (spans_at p.spans p.texts keys)

@@ -6,6 +6,7 @@ pub mod Invariant
 pub mod Steps
 pub mod Outbox
 pub mod Undo
+pub mod Unsent
 pub mod Acts
 pub mod Drains
 pub mod Posts

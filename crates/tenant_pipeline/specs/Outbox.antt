@@ -1,6 +1,6 @@
 -- How spans that leave their rows become batches that wait to be sent, by what is a tenant's own (the Collector's
 -- batchprocessor and exporterhelper, as `tenant_rules` has them).
-use Rattle.std.specs.Prelude.{None, ◌≡◌, ◌≢◌, ◌<◌, ◌≤◌, ◌+◌, ℕ, zero, suc, List, length}
+use Rattle.std.specs.Prelude.{None, ◌≡◌, ◌≢◌, ◌<◌, ◌≤◌, ◌+◌, ◌++◌, ℕ, zero, suc, List, length}
 use Rattle.drop_ledger.specs.declared.places.Place.TheVariants.{Undecided}
 use Rattle.send_queue.specs.Sender.{SenderData, taken_back}
 use Rattle.send_queue.specs.declared.settled.Settled.{Settled}
@@ -16,19 +16,12 @@ use Rattle.tenant_rules.specs.Arrivals.{Arrival}
 use Rattle.tenant_rules.specs.State.{State}
 use Rattle.tenant_rules.specs.Timers.{grouped}
 use Rattle.tenant_pipeline.specs.declared.pipeline.Pipeline.{Pipeline}
-use Rattle.tenant_pipeline.specs.StateIn.{arrivals_of, pending_with}
-
--- the spans at these keys, as they arrived
-abbrev pub arrivals_at : Part TraceNote → List ℕ → List Arrival
-arrivals_at p keys = arrivals_of (spans_at p.spans p.texts keys)
+use Rattle.tenant_pipeline.specs.StateIn.{pending_with, written_with}
+pub use Rattle.tenant_pipeline.specs.StateIn.{arrivals_at, batch_at}
 
 -- each of these keys has its span
 abbrev pub AreThere : Part TraceNote → List ℕ → Type 0
 AreThere p keys = (key : ℕ) → 0 < count key keys → p.spans key ≢ None
-
--- a batch of keys, with their spans
-abbrev pub batch_at : Part TraceNote → Batch ℕ → Batch Arrival
-batch_at p batch = record { moment = batch.moment; spans = arrivals_at p batch.spans }
 
 -- what is pending, with the spans of the keys
 abbrev pub pending_at : Part TraceNote → batcher.State ℕ → batcher.State Arrival
@@ -56,6 +49,12 @@ pub record Groups (moment : ℕ) (keys : List ℕ) (p : Part TraceNote) (old new
   pub timer : IsAfter (next_due new.batcher) moment
   pub pending_is : new.ledger.places.pending ≡ length new.batcher.spans
   pub room : HasRoom new
+
+-- the same while a drain's batches aren't written: those that the group fills wait with them
+abbrev pub GroupsUnsent : ℕ → List ℕ → (unsent unsent' : List (Batch ℕ)) → (old new : Pipeline) → Type 0
+GroupsUnsent moment keys unsent unsent' old new = (p : Part TraceNote) → AreThere p (old.batcher.spans ++ keys)
+    → HasRoom (written_with unsent p old)
+    → Groups moment keys p (written_with unsent p old) (written_with unsent' p new)
 
 -- the sender without so many batches that it took last
 abbrev pub undone : ℕ → SenderData → SenderData

@@ -29,7 +29,7 @@ use Rattle.otlp_prepare.specs.Origin.{OriginTexts}
 use Rattle.otlp_prepare.specs.Prepared.{IsReady}
 use Rattle.otlp_prepare.specs.declared.noted.NotedSpan.{NotedSpan}
 use Rattle.tenant_stores.specs.Shows.{AreAmong}
-use Rattle.tenant_pipeline.specs.StateIn.{arrival_of, part_in, policies_of, state_of}
+use Rattle.tenant_pipeline.specs.StateIn.{arrival_of, part_in, policies_of, written_state_of}
 use Rattle.tenant_pipeline.specs.Invariant.{PipelineInvariantAt}
 use Rattle.tenant_pipeline.specs.Undo.{TakesBack, hits_undone}
 
@@ -71,7 +71,7 @@ pub record IsComing (moment : ℕ) (journal : Journal) (keys : TextKeys) (span :
 -- more than one span was counted
 pub record Came (change : State → State) (moment : ℕ) (journal journal' : Journal) (own own' : Pipeline)
     (p p' : Part TraceNote) : Type 0 where
-  pub rules : state_of own' p' ≡ change (state_of own p)
+  pub rules : written_state_of own' p' ≡ change (written_state_of own p)
   pub posting : (held : List ℕ) → IsPosting moment journal held own p → IsPosting moment journal' held own' p'
   pub texts : (held : List ℕ) → IsPosting moment journal held own p → (keys : TextKeys)
       → AreAmong (text_keys keys) held → origin_at (text_at p'.texts) keys ≡ origin_at (text_at p.texts) keys
@@ -181,7 +181,7 @@ pub record IsNext (moment : ℕ) (journal : Journal) (origins : List OriginTexts
 -- it came: the tenant is what this change makes of it, the post goes on, and no more than one span was counted
 pub record CameNext (change : State → State) (moment : ℕ) (journal : Journal) (origins : List OriginTexts)
     (held : HeldOrigins) (own own' : Pipeline) (p p' : Part TraceNote) : Type 0 where
-  pub rules : state_of own' p' ≡ change (state_of own p)
+  pub rules : written_state_of own' p' ≡ change (written_state_of own p)
   pub posting : IsPosting moment journal (held_keys held) own' p'
   pub held_at : AreHeldAt origins held p'
   pub counted_by : counted own'.ledger ≤ counted own.ledger + 1

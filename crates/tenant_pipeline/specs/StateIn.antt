@@ -1,19 +1,22 @@
 -- What a tenant's rules see of it: what its pipeline keeps by itself, and what the stores have of it. This project's
 -- own rule.
-use Rattle.std.specs.Prelude.{ℕ, List, map}
+use Rattle.std.specs.Prelude.{ℕ, List, [], ◌++◌, map}
 use Rattle.span_pool.specs.Stored.{SpanTexts, bytes_of}
 use Rattle.span_view.specs.Reading.{facts_of}
 use Rattle.tail_policy.specs.declared.note.TraceNote.{TraceNote}
 use Rattle.tail_settings.specs.Policy.{PolicyData}
 use Rattle.tail_settings.specs.Section.{section_view}
+use Rattle.span_batcher.specs.Batches.{Batch}
 use Rattle.span_batcher.specs.State as batcher
 use Rattle.tenant_stores.specs.declared.stores.Stores.{Stores}
 use Rattle.tenant_stores.specs.Part.{Part, part}
 use Rattle.tenant_stores.specs.Counts.{Counts}
-use Rattle.tenant_stores.specs.View.{SettledRow, WaitingRow, View, view}
+use Rattle.tenant_stores.specs.View.{SettledRow, WaitingRow, View, spans_at, view}
 use Rattle.tenant_rules.specs.Arrivals.{Arrival}
+use Rattle.tenant_rules.specs.Batching.{all_sent}
 use Rattle.decision_cache.specs.Caches.{shown}
 use Rattle.tenant_rules.specs.Fate.{SettledData, WaitingData}
+use Rattle.tenant_rules.specs.Sender.{BatchData, SenderData}
 use Rattle.tenant_rules.specs.State.{State}
 use Rattle.tenant_pipeline.specs.declared.pipeline.Pipeline.{Pipeline}
 
@@ -54,7 +57,7 @@ policies_of own = (section_view own.section).tail_sampling.policies
 abbrev pub pending_with : batcher.State ℕ → List SpanTexts → batcher.State Arrival
 pending_with b spans = record { rules = b.rules; start = b.start; spans = arrivals_of spans }
 
--- what the rules see, by what a part shows
+-- what the rules see of a tenant whose batches are all written, by what a part shows
 abbrev pub state_by : Pipeline → View TraceNote → State
 state_by own v = record {
   section = section_view own.section;
@@ -73,13 +76,47 @@ state_by own v = record {
 abbrev pub view_in : Pipeline → Part TraceNote → View TraceNote
 view_in own p = view (counts_in own) own.batcher.spans p
 
--- and so by its part
-abbrev pub state_of : Pipeline → Part TraceNote → State
-state_of own p = state_by own (view_in own p)
-
 -- the tenant's part of the stores
 abbrev pub part_in : Pipeline → Stores TraceNote → Part TraceNote
 part_in own stores = part own.tenant stores
+
+-- what the rules see of such a tenant by its part
+abbrev pub written_state_of : Pipeline → Part TraceNote → State
+written_state_of own p = state_by own (view_in own p)
+
+-- and by the stores
+abbrev pub written_state_in : Pipeline → Stores TraceNote → State
+written_state_in own stores = written_state_of own (part_in own stores)
+
+-- ---- batches that aren't written yet
+
+-- the spans at these keys, as they arrived
+abbrev pub arrivals_at : Part TraceNote → List ℕ → List Arrival
+arrivals_at p keys = arrivals_of (spans_at p.spans p.texts keys)
+
+-- a batch of keys, with their spans
+abbrev pub batch_at : Part TraceNote → Batch ℕ → Batch Arrival
+batch_at p batch = record { moment = batch.moment; spans = arrivals_at p batch.spans }
+
+-- such batches as they are sent once they are written
+abbrev pub unsent_at : Part TraceNote → List (Batch ℕ) → List BatchData
+unsent_at p batches = all_sent (map (batch_at p) batches)
+
+-- a sender with these batches behind those that wait
+abbrev pub with_behind : List BatchData → SenderData → SenderData
+with_behind batches s = record s { queue = s.queue ++ batches }
+
+-- the tenant as if these batches were written too, behind the others
+abbrev pub written_with : List (Batch ℕ) → Part TraceNote → Pipeline → Pipeline
+written_with batches p own = record own { sender = with_behind (unsent_at p batches) own.sender; unsent = [] }
+
+-- as if all were
+abbrev pub all_written : Pipeline → Part TraceNote → Pipeline
+all_written own p = written_with own.unsent p own
+
+-- what the rules see of any tenant by its part: its batches that aren't written wait with the others
+abbrev pub state_of : Pipeline → Part TraceNote → State
+state_of own p = written_state_of (all_written own p) p
 
 -- what the rules see of the tenant
 abbrev pub state_in : Pipeline → Stores TraceNote → State

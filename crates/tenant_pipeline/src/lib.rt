@@ -13,14 +13,18 @@
 //! them (`specs/Invariant`). A step takes effect at the greatest moment so far, after the timers that are due by then,
 //! each at its own moment. It changes the part of its own tenant alone.
 //!
+//! A drain decides all that waits in one step, but its batches are written one at a time, as workers take them: until
+//! then a batch is the keys of its spans, which stay in the stores. The rules see it in the queue, as it will be sent.
+//!
 //! Where memory is refused, some of those timers may have run, the clock then stands at the last one's moment, and
-//! nothing else has changed. What a tenant is told afterwards follows from that state.
+//! nothing else has changed that the rules see. What a tenant is told afterwards follows from that state.
 //!
 //! It stands on `tenant_rules`, `tenant_stores`, `span_batcher`, `send_queue`, `drop_ledger`, `decision_cache`,
 //! `otlp_prepare`, `tail_policy` and `tail_settings`, and on the crates that write OTLP.
 #![tactic(auto)]
 
 mod drain;
+mod drained;
 mod journal;
 mod law;
 mod outbox;
@@ -32,6 +36,7 @@ mod send;
 mod step;
 mod timers;
 mod undo;
+mod unsent;
 mod usage;
 
 pub use law::drained_holds_none;

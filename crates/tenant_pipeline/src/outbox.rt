@@ -17,11 +17,13 @@ ghost use Rattle.tenant_rules.specs.Sender.{sizes};
 ghost use Rattle.tenant_rules.specs.Timers.{recount, queued, all_queued};
 ghost use Rattle.tenant_pipeline.specs.declared.pipeline.Pipeline.{Pipeline as Own};
 ghost use Rattle.tenant_pipeline.specs.StateIn.{part_in};
-ghost use Rattle.tenant_pipeline.specs.Outbox.{arrivals_at, AreThere, batch_at, Sends, Groups, Took, HasRoom};
+ghost use Rattle.tenant_pipeline.specs.Outbox.{arrivals_at, AreThere, batch_at, Sends, Groups, GroupsUnsent, Took, HasRoom};
 ghost use Rattle.tenant_pipeline.specs.Undo.{TakesBack};
+ghost use Rattle.tenant_pipeline.specs.Unsent.{count_left};
 
 use crate::pipeline::Pipeline;
 use crate::undo::{Undo, take_back_offers};
+use crate::unsent::Leaving;
 use drop_ledger::{Ledger, Place};
 use send_queue::{Batch, OfferFault};
 use span_batcher::{Planned, encode_batch};
@@ -291,5 +293,47 @@ impl Pipeline {
                 Err(refused)
             }
         }
+    }
+
+    /// The undecided spans at these keys leave together at a moment, in milliseconds, and wait for a batch. Batches
+    /// that this fills are among those that a drain forms. What it changes can be taken back, also where memory is
+    /// refused.
+    pub(crate) fn group_unsent(
+        &mut self,
+        undo: &mut Undo,
+        leaving: &mut Leaving,
+        moment: u64,
+        keys: &[u32],
+    ) -> Result<(), AllocError>
+        requires not_empty { 0 < length keys.now }
+        requires moment { moment ≤ 2 ^ 62 }
+        requires timer { IsAfter (next_due self.old.batcher) moment }
+        requires rules { self.old.batcher.rules ≡ rules_of (section_view self.old.section) }
+        requires undecided { length keys.now ≤ self.old.ledger.places.undecided }
+        requires pending { self.old.ledger.places.pending ≡ length self.old.batcher.spans }
+        requires offers { undo.old.offers ≤ length self.old.sender.queue }
+        requires few { length self.old.sender.queue < 2 ^ 32 }
+        ensures on_success { OnOk result (GroupsUnsent moment keys.now leaving.old.unsent
+            leaving.new.unsent self.old self.new) }
+
+        // Each key is pending, in a batch or gone, as often as before.
+        ensures gone { OnOk result ((key : ℕ)
+            → count_left leaving.new key + count key self.new.batcher.spans ≡ count_left leaving.old
+            key + (count key self.old.batcher.spans + count key keys.now)) }
+        ensures back { (start : Own) → TakesBack undo.old start self.old
+            → TakesBack undo.new start self.new }
+        ensures offers { undo.new.offers ≤ length self.new.sender.queue }
+        ensures sender { self.new.sender ≡ self.old.sender }
+    {
+        if !self.batcher.fills(keys.len()) {
+            return self.append_group(moment, keys);
+        }
+        let mut planned = self.batcher.plan(moment, keys)?;
+        self.ledger
+            .move_spans(Place::Undecided, Place::Pending, keys.len() as u64);
+        leaving.add_all(&self.sender, &mut self.ledger, planned.batches())?;
+        self.batcher.exchange(&mut planned);
+        undo.note(planned, 0);
+        Ok(())
     }
 }

@@ -14,6 +14,7 @@ ghost use Rattle.tenant_pipeline.specs.Present.{rows_present, usage_of};
 ghost use Rattle.tenant_pipeline.specs.Invariant.{PipelineInvariantBy, PipelineInvariant, IsSwept, HasNonePending};
 ghost use Rattle.tenant_pipeline.specs.Steps.{StandsFor};
 
+use crate::unsent::Unsent;
 use crate::usage::Usage;
 use decision_cache::{DecisionCaches, HashKeys};
 use drop_ledger::Ledger;
@@ -41,7 +42,7 @@ pub struct RowCounts {
 }
 
 /// What is kept of one tenant beside the stores: its settings, its clock, how many rows it has, the keys of its spans
-/// that wait for a batch, its batches on their way, and its counters.
+/// that wait for a batch or in one that isn't written, its batches on their way, and its counters.
 #[derive(Drop)]
 pub struct Pipeline {
     pub(crate) alloc: Global,
@@ -58,6 +59,8 @@ pub struct Pipeline {
     pub(crate) ledger: Ledger,
     // The ids of traces that were decided, by verdict.
     pub(crate) caches: DecisionCaches,
+    // The batches of its drain that aren't written yet. They wait behind those of `sender`, of which there is one then.
+    pub(crate) unsent: Unsent,
 }
 
 impl Pipeline {
@@ -106,6 +109,7 @@ impl Pipeline {
             sender,
             ledger: Ledger::new(),
             caches,
+            unsent: Unsent::new(alloc),
         })
     }
 
@@ -133,7 +137,11 @@ impl Pipeline {
         requires invariant { PipelineInvariant self.now stores.now }
         ensures { result ≡ ready (state_in self.now stores.now) }
     {
-        lesser(self.next_timer(stores), self.sender.ready())
+        let job = self.sender.ready();
+        if !self.unsent.is_empty() {
+            return job;
+        }
+        lesser(self.next_timer(stores), job)
     }
 
     /// How full it is, and how full it may be. It takes no memory.
@@ -146,7 +154,7 @@ impl Pipeline {
             undecided_rows: self.rows_undecided(),
             rows_limit: u64::from(self.section.tail_sampling.num_traces),
             spans_limit: u64::from(self.section.max_spans),
-            queued_batches: self.sender.waiting() as u64,
+            queued_batches: (self.sender.waiting() as u64).saturating_add(self.unsent.len() as u64),
             queued_batches_limit: u64::from(self.sender.capacity()),
         }
     }

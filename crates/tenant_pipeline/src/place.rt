@@ -11,7 +11,7 @@ ghost use Rattle.tenant_stores.specs.Trail.{HoldsAll};
 ghost use Rattle.tenant_rules.specs.Machine.{come, joins, opens, cached_or_opens, evicted, counted_in};
 ghost use Rattle.tenant_rules.specs.Timers.{grouped};
 ghost use Rattle.decision_cache.specs.Caches.{found, shown};
-ghost use Rattle.tenant_pipeline.specs.StateIn.{counts_in, part_in, state_in};
+ghost use Rattle.tenant_pipeline.specs.StateIn.{counts_in, part_in, written_state_in};
 ghost use Rattle.tenant_pipeline.specs.Invariant.{PipelineInvariantAt};
 ghost use Rattle.tenant_pipeline.specs.Posts.{arrival_at, CameIn, CameUnsampled, IsComing, IsSameTenant, IsTraceState, IsTraceStateAt, StaysWritten, StaysWrittenAnywhere};
 ghost use Rattle.tenant_pipeline.specs.Posts.{first_left, ledger_left, state_by_cache};
@@ -45,7 +45,7 @@ impl Pipeline {
     pub(crate) fn trace_state(&self, stores: &Stores<TraceNote>, trace: [u8; 16]) -> TraceState
         requires invariant { (reached : ℕ) × (gone held : List ℕ)
             × PipelineInvariantAt reached gone held self.now (part_in self.now stores.now) }
-        ensures state { IsTraceState trace result (state_in self.now stores.now) }
+        ensures state { IsTraceState trace result (written_state_in self.now stores.now) }
         ensures number { IsTraceStateAt trace result self.now (part_in self.now stores.now) }
     {
         let Some(number) = stores.latest_row(self.tenant, trace) else {

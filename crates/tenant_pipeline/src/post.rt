@@ -14,7 +14,7 @@ ghost use Rattle.tenant_rules.specs.Machine.{come, post, post_verdict};
 ghost use Rattle.otlp_prepare.specs.Arrivals.{arrival_in, arrivals_in, origin_at, origin_view};
 ghost use Rattle.otlp_prepare.specs.Prepared.{AreReady};
 ghost use Rattle.tenant_pipeline.specs.Prepared.{arrivals_of};
-ghost use Rattle.tenant_pipeline.specs.StateIn.{part_in, policies_of, state_in};
+ghost use Rattle.tenant_pipeline.specs.StateIn.{part_in, policies_of, written_state_in};
 ghost use Rattle.tenant_pipeline.specs.Invariant.{PipelineInvariantAt, IsSwept};
 ghost use Rattle.tenant_pipeline.specs.Posts.{all_keys, all_text_keys, held_keys, keys_at, place_of, AreHeldAt, CameNext, HoldsMore, IsFull, IsNext, IsPosting, IsTaken, IsSameTenant, StaysWrittenWith, verdict_after};
 ghost use Rattle.tenant_pipeline.specs.Acts.{ActsAt, IsPosted, at};
@@ -180,10 +180,10 @@ impl Pipeline {
         requires quiet { IsAfter (next_due self.old.batcher) moment }
         requires policies { prepared.now.policies ≡ policies_of self.old }
         ensures on_success { OnOk result (ActsAt moment (post moment (arrivals_of prepared.now))
-            (state_in self.old stores.old) (state_in self.new stores.new)) }
+            (written_state_in self.old stores.old) (written_state_in self.new stores.new)) }
         ensures reply { IfOk result (λ reply. reply ≡
             reply_of (post_verdict moment (arrivals_of prepared.now)
-            (at moment (state_in self.old stores.old)))) }
+            (at moment (written_state_in self.old stores.old)))) }
         ensures holds { OnOk result (PipelineInvariantAt moment [] [] self.new
             (part_in self.new stores.new)) }
         ensures others_unchanged { OthersUnchanged self.old.tenant stores.old stores.new }
@@ -228,9 +228,10 @@ impl Pipeline {
         requires ready { AreReady (policies_of self.old) origins.now spans.now }
         requires fits { counted self.old.ledger + (length spans.now + invalid) ≤ most_counted }
         ensures on_success { OnOk result (IsTaken (arrivals_in origins.now spans.now) invalid moment
-            (state_in self.old stores.old) (state_in self.new stores.new)) }
+            (written_state_in self.old stores.old) (written_state_in self.new stores.new)) }
         ensures reply { IfOk result (λ reply. reply ≡ reply_of (verdict_after
-            (arrivals_in origins.now spans.now) invalid moment (state_in self.old stores.old))) }
+            (arrivals_in origins.now spans.now) invalid moment
+            (written_state_in self.old stores.old))) }
         ensures holds { OnOk result (PipelineInvariantAt moment [] (held_keys held.new) self.new
             (part_in self.new stores.new)) }
         ensures others_unchanged { OthersUnchanged self.old.tenant stores.old stores.new }
@@ -274,9 +275,10 @@ impl Pipeline {
         requires ready { AreReady (policies_of self.old) origins.now spans.now }
         requires fits { counted self.old.ledger + (length spans.now + invalid) ≤ most_counted }
         ensures on_success { OnOk result (IsTaken (arrivals_in origins.now spans.now) invalid moment
-            (state_in self.old stores.old) (state_in self.new stores.new)) }
+            (written_state_in self.old stores.old) (written_state_in self.new stores.new)) }
         ensures reply { IfOk result (λ reply. reply ≡ reply_of (verdict_after
-            (arrivals_in origins.now spans.now) invalid moment (state_in self.old stores.old))) }
+            (arrivals_in origins.now spans.now) invalid moment
+            (written_state_in self.old stores.old))) }
         ensures posting { OnOk result (IsPosting moment journal.new (held_keys held.new) self.new
             (part_in self.new stores.new)) }
         ensures written { StaysWrittenWith held.old held.new journal.old journal.new self.old
@@ -310,7 +312,7 @@ impl Pipeline {
         ensures came { OnOk result (CameNext (come moment (arrival_in origins.now span.now)) moment
             journal.new origins.now held.new self.old self.new (part_in self.old stores.old)
             (part_in self.new stores.new)) }
-        ensures full { IsFull (state_in self.old stores.old) → (held.new ≡ held.old)
+        ensures full { IsFull (written_state_in self.old stores.old) → (held.new ≡ held.old)
             × (part self.old.tenant stores.new ≡ part self.old.tenant stores.old) }
         ensures written { StaysWrittenWith held.old held.new journal.old journal.new self.old
             self.new stores.old stores.new }
@@ -382,7 +384,8 @@ impl Pipeline {
     fn sweep(&mut self, stores: &mut Stores<TraceNote>)
         requires { (reached : ℕ) × (held : List ℕ)
             × PipelineInvariantAt reached [] held self.old (part_in self.old stores.old) }
-        ensures state { state_in self.new stores.new ≡ state_in self.old stores.old }
+        ensures state { written_state_in self.new stores.new ≡ written_state_in self.old
+            stores.old }
         ensures holds { (reached : ℕ) (held : List ℕ)
             → PipelineInvariantAt reached [] held self.old (part_in self.old stores.old)
             → PipelineInvariantAt reached [] held self.new (part_in self.new stores.new) }

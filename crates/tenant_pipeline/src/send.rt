@@ -23,7 +23,7 @@ use tenant_rules::StepReply;
 impl Pipeline {
     /// Hands out the job whose turn it is at a moment, in milliseconds, where there is one.
     pub(crate) fn hand_out(&mut self, moment: u64) -> Result<StepReply, AllocError>
-        requires queued { sizes self.old.sender.queue ≡ self.old.ledger.places.queued }
+        requires queued { sizes self.old.sender.queue ≤ self.old.ledger.places.queued }
         ensures step_reply { IfOk result (λ told. told ≡ turn_told moment self.old.sender) }
         ensures on_success { OnOk result (Sends (turned moment) self.old self.new) }
         ensures on_refusal { OnErr result (self.new ≡ self.old) }

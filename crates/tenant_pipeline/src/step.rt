@@ -8,9 +8,9 @@ ghost use Rattle.tenant_rules.specs.Own.{asked, moment_of, Retire};
 ghost use Rattle.tenant_rules.specs.Machine.{acts, drain, effective, told_at};
 ghost use Rattle.tenant_rules.specs.Timers.{next_timer, IsFront};
 ghost use Rattle.tenant_rules.specs.declared.reply.StepReply.TheVariants as replies;
-ghost use Rattle.tenant_pipeline.specs.Acts.{ActsAt, at};
-ghost use Rattle.tenant_pipeline.specs.StateIn.{part_in, policies_of, state_in};
-ghost use Rattle.tenant_pipeline.specs.Invariant.{PipelineInvariant, PipelineInvariantAt, IsSwept, HasNonePending};
+ghost use Rattle.tenant_pipeline.specs.Acts.{ActsAt, all_run, at};
+ghost use Rattle.tenant_pipeline.specs.StateIn.{part_in, policies_of, state_in, written_state_in};
+ghost use Rattle.tenant_pipeline.specs.Invariant.{PipelineInvariant, PipelineInvariantAt, PipelineInvariantFrom, IsSwept, HasNonePending};
 ghost use Rattle.tenant_pipeline.specs.OwnStep.{own_step_of, IsMadeFor};
 ghost use Rattle.tenant_pipeline.specs.Steps.{Answers, FollowsFromState};
 
@@ -108,8 +108,7 @@ impl Pipeline {
             → HasNonePending self.new) }
     {
         let moment = self.effective(step);
-        self.run_due(stores, moment)?;
-        let told = self.take(stores, moment, step)?;
+        let told = self.run(stores, moment, step)?;
         self.clock = moment;
         Ok(told)
     }
@@ -135,6 +134,40 @@ impl Pipeline {
         self.clock.max(step.asked().min(LATEST_MOMENT))
     }
 
+    /// The timers run that are due by a moment, in milliseconds, and then what was asked for is done. Where memory is
+    /// refused, some of these timers may have run, and nothing else has happened.
+    fn run(
+        &mut self,
+        stores: &mut Stores<TraceNote>,
+        moment: u64,
+        step: &OwnStep<'_>,
+    ) -> Result<StepReply, AllocError>
+        requires invariant { PipelineInvariant self.old stores.old }
+        requires policies { IsMadeFor (policies_of self.old) step.now }
+        requires later { self.old.clock ≤ moment }
+        requires fits { moment ≤ 2 ^ 62 }
+
+        ensures on_success { OnOk result (ActsAt moment (acts moment (own_step_of step.now))
+            (all_run moment (state_in self.old stores.old)) (state_in self.new stores.new)) }
+        ensures told { IfOk result (λ told. told ≡ told_at moment (own_step_of step.now)
+            (at moment (all_run moment (state_in self.old stores.old)))) }
+        ensures holds { OnOk result (PipelineInvariantFrom moment self.new
+            (part_in self.new stores.new)) }
+        ensures on_refusal { OnErr result
+            (IsFront moment (state_in self.old stores.old) (state_in self.new stores.new)) }
+        ensures holds_on_refusal { OnErr result (PipelineInvariant self.new stores.new) }
+        ensures swept { IsSwept self.old → IsSwept self.new }
+        ensures others_unchanged { OthersUnchanged self.old.tenant stores.old stores.new }
+        ensures tenant { self.new.tenant ≡ self.old.tenant }
+        ensures section { self.new.section ≡ self.old.section }
+    {
+        if !self.unsent.is_empty() {
+            return self.take_drained(stores, moment, step);
+        }
+        self.run_due(stores, moment)?;
+        self.take(stores, moment, step)
+    }
+
     /// What was asked for is done at a moment, in milliseconds, by which no timer is due. Where memory is refused,
     /// nothing has changed.
     fn take(
@@ -144,18 +177,19 @@ impl Pipeline {
         step: &OwnStep<'_>,
     ) -> Result<StepReply, AllocError>
         requires holds { PipelineInvariantAt moment [] [] self.old (part_in self.old stores.old) }
-        requires quiet { is_due (next_timer (state_in self.old stores.old)) moment ≡ false }
+        requires quiet { is_due (next_timer (written_state_in self.old stores.old)) moment ≡ false }
         requires policies { IsMadeFor (policies_of self.old) step.now }
 
         ensures on_success { OnOk result (ActsAt moment (acts moment (own_step_of step.now))
-            (state_in self.old stores.old) (state_in self.new stores.new)) }
+            (written_state_in self.old stores.old) (state_in self.new stores.new)) }
         ensures told { IfOk result (λ told. told ≡
-            told_at moment (own_step_of step.now) (at moment (state_in self.old stores.old))) }
+            told_at moment (own_step_of step.now)
+            (at moment (written_state_in self.old stores.old))) }
         ensures on_refusal { OnErr result (self.new ≡ self.old) }
         ensures part_on_refusal { OnErr result
             (part self.old.tenant stores.new ≡ part self.old.tenant stores.old) }
 
-        ensures holds { OnOk result (PipelineInvariantAt moment [] [] self.new
+        ensures holds { OnOk result (PipelineInvariantFrom moment self.new
             (part_in self.new stores.new)) }
         ensures swept { IsSwept self.old → IsSwept self.new }
         ensures others_unchanged { OthersUnchanged self.old.tenant stores.old stores.new }
@@ -188,16 +222,16 @@ impl Pipeline {
         moment: u64,
     ) -> Result<StepReply, AllocError>
         requires holds { PipelineInvariantAt moment [] [] self.old (part_in self.old stores.old) }
-        requires quiet { is_due (next_timer (state_in self.old stores.old)) moment ≡ false }
+        requires quiet { is_due (next_timer (written_state_in self.old stores.old)) moment ≡ false }
 
         ensures on_success { OnOk result (ActsAt moment (drain moment)
-            (state_in self.old stores.old) (state_in self.new stores.new)) }
+            (written_state_in self.old stores.old) (state_in self.new stores.new)) }
         ensures told { IfOk result (λ told. told ≡ replies.Done) }
         ensures on_refusal { OnErr result (self.new ≡ self.old) }
         ensures part_on_refusal { OnErr result
             (part self.old.tenant stores.new ≡ part self.old.tenant stores.old) }
 
-        ensures holds { OnOk result (PipelineInvariantAt moment [] [] self.new
+        ensures holds { OnOk result (PipelineInvariantFrom moment self.new
             (part_in self.new stores.new)) }
         ensures swept { IsSwept self.old → IsSwept self.new }
         ensures others_unchanged { OthersUnchanged self.old.tenant stores.old stores.new }

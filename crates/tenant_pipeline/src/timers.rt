@@ -4,8 +4,8 @@ ghost use Rattle.std.specs.Prelude.{◌≡◌, ◌<◌, ◌≤◌, ◌^◌, ℕ,
 ghost use Rattle.span_batcher.specs.State.{next_due};
 ghost use Rattle.span_batcher.specs.Timers.{is_due};
 ghost use Rattle.tenant_rules.specs.Timers.{first_due, next_timer, is_batch, flushed, decide, one_run, ran, enough, IsFront};
-ghost use Rattle.tenant_pipeline.specs.StateIn.{part_in, state_in};
-ghost use Rattle.tenant_pipeline.specs.Invariant.{PipelineInvariant, PipelineInvariantAt, IsSwept};
+ghost use Rattle.tenant_pipeline.specs.StateIn.{part_in, written_state_in};
+ghost use Rattle.tenant_pipeline.specs.Invariant.{WrittenInvariant, PipelineInvariantAt, IsSwept};
 ghost use Rattle.tenant_stores.specs.Promises.{OthersUnchanged};
 
 use crate::outbox::encoded;
@@ -40,8 +40,8 @@ fn is_due(timer: Option<u64>, moment: u64) -> bool
 impl Pipeline {
     /// When the first row that waits is due, in milliseconds.
     fn first_due(&self, stores: &Stores<TraceNote>) -> Option<u64>
-        requires invariant { PipelineInvariant self.now stores.now }
-        ensures { result ≡ first_due (state_in self.now stores.now).waiting }
+        requires invariant { WrittenInvariant self.now stores.now }
+        ensures { result ≡ first_due (written_state_in self.now stores.now).waiting }
     {
         if self.rows.decided >= self.rows.opened {
             return None;
@@ -54,25 +54,25 @@ impl Pipeline {
 
     /// When the first timer is due, in milliseconds.
     pub(crate) fn next_timer(&self, stores: &Stores<TraceNote>) -> Option<u64>
-        requires invariant { PipelineInvariant self.now stores.now }
-        ensures { result ≡ next_timer (state_in self.now stores.now) }
+        requires invariant { WrittenInvariant self.now stores.now }
+        ensures { result ≡ next_timer (written_state_in self.now stores.now) }
     {
         lesser(self.batcher.next_due(), self.first_due(stores))
     }
 
     /// The batch timer runs out: all that is pending is one batch.
     fn flush(&mut self, stores: &mut Stores<TraceNote>) -> Result<(), AllocError>
-        requires invariant { PipelineInvariant self.old stores.old }
+        requires invariant { WrittenInvariant self.old stores.old }
         requires first { is_batch (next_due self.old.batcher)
-            (first_due (state_in self.old stores.old).waiting) ≡ true }
+            (first_due (written_state_in self.old stores.old).waiting) ≡ true }
         requires fits { (due : ℕ) → next_due self.old.batcher ≡ Some due → due ≤ 2 ^ 62 }
-        ensures on_success { OnOk result (state_in self.new stores.new ≡
-            flushed (next_due (state_in self.old stores.old).pending)
-            (state_in self.old stores.old)) }
-        ensures invariant { PipelineInvariant self.new stores.new }
+        ensures on_success { OnOk result (written_state_in self.new stores.new ≡
+            flushed (next_due (written_state_in self.old stores.old).pending)
+            (written_state_in self.old stores.old)) }
+        ensures invariant { WrittenInvariant self.new stores.new }
         ensures others_unchanged { OthersUnchanged self.old.tenant stores.old stores.new }
         ensures on_refusal { OnErr result
-            (state_in self.new stores.new ≡ state_in self.old stores.old) }
+            (written_state_in self.new stores.new ≡ written_state_in self.old stores.old) }
         ensures tenant { self.new.tenant ≡ self.old.tenant }
         ensures section { self.new.section ≡ self.old.section }
         ensures swept { IsSwept self.old → IsSwept self.new }
@@ -104,24 +104,26 @@ impl Pipeline {
     /// The first row that waits is decided: its spans wait for a batch where it is sampled, and else they leave. A
     /// cache has its trace then.
     fn decide(&mut self, stores: &mut Stores<TraceNote>) -> Result<(), AllocError>
-        requires invariant { PipelineInvariant self.old stores.old }
+        requires invariant { WrittenInvariant self.old stores.old }
         requires row_undecided { self.old.rows.decided < self.old.rows.opened }
         requires first { is_batch (next_due self.old.batcher)
-            (first_due (state_in self.old stores.old).waiting) ≡ false }
-        requires fits { (due : ℕ) → first_due (state_in self.old stores.old).waiting ≡ Some due
+            (first_due (written_state_in self.old stores.old).waiting) ≡ false }
+        requires fits { (due : ℕ) → first_due (written_state_in self.old stores.old).waiting ≡ Some
+            due
             → due ≤ 2 ^ 62 }
         requires no_hits { self.old.caches.hits ≡ [] }
-        ensures on_success { OnOk result (state_in self.new stores.new ≡
-            decide (state_in self.old stores.old).waiting (state_in self.old stores.old)) }
-        ensures invariant { PipelineInvariant self.new stores.new }
+        ensures on_success { OnOk result (written_state_in self.new stores.new ≡
+            decide (written_state_in self.old stores.old).waiting
+            (written_state_in self.old stores.old)) }
+        ensures invariant { WrittenInvariant self.new stores.new }
         ensures others_unchanged { OthersUnchanged self.old.tenant stores.old stores.new }
         ensures on_refusal { OnErr result
-            (state_in self.new stores.new ≡ state_in self.old stores.old) }
+            (written_state_in self.new stores.new ≡ written_state_in self.old stores.old) }
         ensures tenant { self.new.tenant ≡ self.old.tenant }
         ensures section { self.new.section ≡ self.old.section }
         ensures swept { IsSwept self.old → IsSwept self.new }
         ensures clock { (moment : ℕ) → self.old.clock ≤ moment
-            → ((due : ℕ) → first_due (state_in self.old stores.old).waiting ≡ Some due
+            → ((due : ℕ) → first_due (written_state_in self.old stores.old).waiting ≡ Some due
             → due ≤ moment)
             → self.new.clock ≤ moment }
     {
@@ -166,16 +168,17 @@ impl Pipeline {
         decision: Option<u64>,
         moment: u64,
     ) -> Result<(), AllocError>
-        requires invariant { PipelineInvariant self.old stores.old }
-        requires decision { decision ≡ first_due (state_in self.old stores.old).waiting }
-        requires due { is_due (next_timer (state_in self.old stores.old)) moment ≡ true }
+        requires invariant { WrittenInvariant self.old stores.old }
+        requires decision { decision ≡ first_due (written_state_in self.old stores.old).waiting }
+        requires due { is_due (next_timer (written_state_in self.old stores.old)) moment ≡ true }
         requires fits { moment ≤ 2 ^ 62 }
         ensures on_success { OnOk result
-            (state_in self.new stores.new ≡ one_run (state_in self.old stores.old)) }
-        ensures invariant { PipelineInvariant self.new stores.new }
+            (written_state_in self.new stores.new ≡ one_run
+            (written_state_in self.old stores.old)) }
+        ensures invariant { WrittenInvariant self.new stores.new }
         ensures others_unchanged { OthersUnchanged self.old.tenant stores.old stores.new }
         ensures on_refusal { OnErr result
-            (state_in self.new stores.new ≡ state_in self.old stores.old) }
+            (written_state_in self.new stores.new ≡ written_state_in self.old stores.old) }
         ensures tenant { self.new.tenant ≡ self.old.tenant }
         ensures section { self.new.section ≡ self.old.section }
         ensures swept { IsSwept self.old → IsSwept self.new }
@@ -196,20 +199,21 @@ impl Pipeline {
         stores: &mut Stores<TraceNote>,
         moment: u64,
     ) -> Result<(), AllocError>
-        requires invariant { PipelineInvariant self.old stores.old }
+        requires invariant { WrittenInvariant self.old stores.old }
         requires later { self.old.clock ≤ moment }
         requires fits { moment ≤ 2 ^ 62 }
 
         // All of them have run, or some first ones.
-        ensures on_success { OnOk result (state_in self.new stores.new ≡
-            ran (enough (state_in self.old stores.old)) moment (state_in self.old stores.old)) }
-        ensures front { IsFront moment (state_in self.old stores.old)
-            (state_in self.new stores.new) }
-        ensures quiet { OnOk result (is_due (next_timer (state_in self.new stores.new)) moment
-            ≡ false) }
+        ensures on_success { OnOk result (written_state_in self.new stores.new ≡
+            ran (enough (written_state_in self.old stores.old)) moment
+            (written_state_in self.old stores.old)) }
+        ensures front { IsFront moment (written_state_in self.old stores.old)
+            (written_state_in self.new stores.new) }
+        ensures quiet { OnOk result (is_due (next_timer (written_state_in self.new stores.new))
+            moment ≡ false) }
 
         // What always holds goes on to hold, up to the moment where all have run.
-        ensures invariant { PipelineInvariant self.new stores.new }
+        ensures invariant { WrittenInvariant self.new stores.new }
         ensures reached { OnOk result (PipelineInvariantAt moment [] [] self.new
             (part_in self.new stores.new)) }
         ensures others_unchanged { OthersUnchanged self.old.tenant stores.old stores.new }

@@ -30,14 +30,6 @@ pub AllFrom_less : {X : Type 0} (m n : ℕ) (xs : List (Group X)) → m ≤ n �
 AllFrom_less m n [] le p = tt
 AllFrom_less m n (x ∷ xs) le p = (omega (arith, p.0), AllFrom_less m n xs le p.1)
 
-pub AllFrom-append : {X : Type 0} (m : ℕ) (xs ys : List (Group X)) → AllFrom m xs → AllFrom m ys → AllFrom m (xs ++ ys)
-AllFrom-append m [] ys p q = q
-AllFrom-append m (x ∷ xs) ys p q = (p.0, AllFrom-append m xs ys p.1 q)
-
-pub Ascending-push : {X : Type 0} (xs : List (Group X)) (g : Group X) → Ascending xs → AllUpTo g.moment xs → Ascending (xs ++ g ∷ [])
-Ascending-push [] g a u = (tt, tt)
-Ascending-push (x ∷ xs) g a u = (AllFrom-append x.moment xs (g ∷ []) a.0 (u.0, tt), Ascending-push xs g a.1 u.1)
-
 -- a group before later ones
 put_first : {X : Type 0} (g : Group X) (gs : List (Group X)) → AllFrom g.moment gs → put g gs ≡ g ∷ gs
 put_first g [] from = refl

@@ -137,9 +137,6 @@ decide_row_kept f m r rs s is k =
 pub remembered_kept : (f : Fixed) (left : ℕ) (sampled : Bool) (trace : List ℕ) (s : State) → Kept f left 0 s → Kept f left 0 (remembered sampled trace s)
 remembered_kept f left sampled trace s k = omega arith
 
-pub remembered_counted : (sampled : Bool) (trace : List ℕ) (s : State) → IsCounted s → IsCounted (remembered sampled trace s)
-remembered_counted sampled trace s is = record { sound = is.sound; undecided_is = is.undecided_is; pending_is = is.pending_is; queued_is = is.queued_is; active_is = is.active_is; within_budget = is.within_budget }
-
 decide_kept : (f : Fixed) (ws : List WaitingData) (s : State) → s.waiting ≡ ws → Kept f 0 0 s → Kept f 0 0 (decide ws s)
 decide_kept f [] s is k = k
 decide_kept f (r ∷ rs) s is k = remembered_kept f 0 (are_sampled s.section.tail_sampling.policies r.spans) r.trace (decide_row r.due r rs s) (decide_row_kept f r.due r rs s is k)

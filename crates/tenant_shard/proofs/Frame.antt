@@ -177,7 +177,7 @@ counted_at t stores [] all = tt
 counted_at t stores (x ∷ ms) all = by_test (eqb x.tenant t) (counted_at t stores ms all.1)
   where
     by_test : (b : Bool) → IfSome (kept_of t (views stores ms)) IsCounted → IfSome (cond b (Some (state_in x stores)) (kept_of t (views stores ms))) IsCounted
-    by_test true rest = all.0.counted
+    by_test true rest = all.0.whole.counted
     by_test false rest = rest
 
 pub all_counted : (stores : Stores TraceNote) (es : List AgendaEntry) (ms : List Pipeline) → IsWhole stores es ms → AllCounted (views stores ms)

@@ -1,11 +1,10 @@
 -- What a command that was done is answered.
-use Rattle.std.proofs.Common.{◌≡◌, ℕ, ◌%◌, true, false, List, ◌++◌, codes, Option, Some, None, Ok, Err, refl, sym, subst, ap, ◌∙◌, inl, inr, nat_lt}
+use Rattle.std.proofs.Common.{◌≡◌, ℕ, ◌%◌, true, false, List, ◌++◌, Option, Some, None, Ok, refl, sym, subst, ap, ◌∙◌, inl, inr, nat_lt}
 use Rattle.std.specs.Bool.{MatchBool}
 use Rattle.std.specs.Prelude.{slice_get, slice_set}
 use Rattle.otlp_trace.specs.Data.{RequestData}
 use Rattle.otlp_read.specs.Value.{IsValue}
 use Rattle.otlp_read.specs.declared.fault.ReadFault.{ReadFault}
-use Rattle.tail_settings.specs.Fault.{FaultData, fault_number}
 use Rattle.tail_settings.specs.Section.{SectionData}
 use Rattle.tail_settings.specs.Settings.{SettingsData, settings_view, section_at, number_of}
 use Rattle.tenant_rules.specs.Own.{Own}
@@ -21,7 +20,7 @@ use Rattle.tenant_shard.specs.declared.step.Outcome.TheVariants as outcomes
 use Rattle.tenant_shard.specs.Run.{ShardSteps}
 use Rattle.tenant_shard.specs.Outcomes.{plain, own_post, Piped, asked_in, named_in, is_retirement}
 use Rattle.replay_script.specs.Command.{CommandData, Post, Turn, Add, Retire}
-use Rattle.replay_script.specs.Answer.{reply_text, refused_text, added_text}
+use Rattle.replay_script.specs.Answer.{reply_text, added_text}
 use Rattle.trace_collector.specs.declared.shards.Shards.{Shards}
 use Rattle.trace_collector.specs.Outcomes.{outcome_text, name_at, bad_protobuf}
 use Rattle.trace_collector.specs.Session.{Session, new_among}
@@ -121,37 +120,6 @@ done_asks old new tenant name command step asked before behind same found by who
           )),
     )
 
--- no tenant has the name
-pub none_asked : (old : Shards) (name : List ℕ) (command : CommandData) (asked : Own) → number_of (settings_view old.settings) name ≡ None → IsAskedBy command name asked
-    → Answers old command None old
-none_asked old name command asked missing by = answers_under old old command None (λ pasts all. (
-  record { table = settings_view old.settings; pasts = pasts },
-  by (record { table = settings_view old.settings; pasts = pasts }) (record { table = settings_view old.settings; pasts = pasts }) None refl
-      (subst (λ f. IsAskedOf (settings_view old.settings) pasts f asked None pasts) (sym missing) (refl, refl)),
-  stand_same old old pasts refl all,
-))
-
-pub none_posted : (old : Shards) (name : List ℕ) (moment : ℕ) (body : List ℕ) → number_of (settings_view old.settings) name ≡ None → Answers old (Post name moment body) None old
-none_posted old name moment body missing = answers_under old old (Post name moment body) None (λ pasts all. (
-  record { table = settings_view old.settings; pasts = pasts },
-  (refl, subst (λ f. IsPostedTo (settings_view old.settings) pasts f name moment body None pasts) (sym missing) (refl, refl)),
-  stand_same old old pasts refl all,
-))
-
-pub none_turned : (old : Shards) (shard moment : ℕ) → nat_lt shard (settings_view old.settings).global.shards ≡ false → Answers old (Turn shard moment) None old
-none_turned old shard moment past = answers_under old old (Turn shard moment) None (λ pasts all. (
-  record { table = settings_view old.settings; pasts = pasts },
-  (refl, subst (λ b. MatchBool b (IsStepped (settings_view old.settings) pasts shard None (plain (own.Turn moment)) None pasts) ((◌≡◌ {A = Option (List ℕ)} None None) × (pasts ≡ pasts))) (sym past) (refl, refl)),
-  stand_same old old pasts refl all,
-))
-
-pub none_retired : (old : Shards) (name : List ℕ) (moment : ℕ) → number_of (settings_view old.settings) name ≡ None → Answers old (Retire name moment) None old
-none_retired old name moment missing = answers_under old old (Retire name moment) None (λ pasts all. (
-  record { table = settings_view old.settings; pasts = pasts },
-  subst (λ f. IsRetired (record { table = settings_view old.settings; pasts = pasts }) f moment None (record { table = settings_view old.settings; pasts = pasts })) (sym missing) (refl, refl),
-  stand_same old old pasts refl all,
-))
-
 -- a body that is bad has no value
 pub bad_none : (body : List ℕ) (refused : Refusal) (fault : ReadFault) → ((v : RequestData) → IsValue body v → refused ≡ refusal.OutOfMemory)
     → refused ≡ refusal.Bad fault → HasNoValue body
@@ -208,21 +176,6 @@ done_adds old new number document before behind means next joins =
             record { table = refl; stand = subst (λ s. AllStand s new.shards.items (new_among pasts (settings_view old.settings).next)) brings.joins stands },
           )),
     )
-
--- a document is refused
-pub done_refuses : (old new : Shards) (document : List ℕ) (fault : FaultData) (before behind : List ℕ) → arrived (settings_view old.settings) document ≡ Err fault
-    → settings_view new.settings ≡ settings_view old.settings → new.shards.items ≡ old.shards.items → behind ≡ before ++ refused_text (codes "add") (fault_number fault)
-    → (line : List ℕ) × (behind ≡ before ++ line) × Answers old (Add document) (Some line) new
-done_refuses old new document fault before behind means same items text = (
-  refused_text (codes "add") (fault_number fault),
-  text,
-  answers_under old new (Add document) (Some (refused_text (codes "add") (fault_number fault))) (λ pasts all. (
-    record { table = settings_view old.settings; pasts = pasts },
-    subst (λ m. IsAdded (record { table = settings_view old.settings; pasts = pasts }) m (Some (refused_text (codes "add") (fault_number fault)))
-        (record { table = settings_view old.settings; pasts = pasts })) (sym means) (refl, refl),
-    stand_same old new pasts same (subst (λ views. AllStand (settings_view old.settings) views pasts) (sym items) all),
-  )),
-)
 
 -- no report is told, and nobody leaves
 pub nobody_leaves : (tenant : ℕ) (outcome : Outcome) (settings : SettingsData) → ((whom : ℕ) (report : List ℕ) → outcome ≡ outcomes.Report whom report → ⊥)

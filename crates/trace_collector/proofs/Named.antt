@@ -186,9 +186,6 @@ listed_text text settings means =
       below = λ k d within. omega (arith, sound.numbers k d within, sound.next, within);
     }
 
-pub are_named : (text : List ℕ) (settings : SettingsData) → settings_of text ≡ Ok settings → AreNamed settings
-are_named text settings means = listed_named settings (listed_text text settings means)
-
 pub name_of_number : (settings : SettingsData) (number : ℕ) (tenant : TenantData) → tenant_at settings number ≡ Some tenant → name_at settings number ≡ tenant.name
 name_of_number settings number tenant at = ap (λ o. unwrap_or (option_map (λ t. t.name) o) []) at
 

@@ -9,9 +9,6 @@ after_more : (s : SettingsData) (changes : List Change) (change : Change) → af
 after_more s [] change = refl
 after_more s (c ∷ changes) change = after_more (changed s c) changes change
 
-pub came_first : (first now : SettingsData) → now ≡ first → CameOf first now
-came_first first now same = ∣ ([], same) ∣₁
-
 came_more : (first s new : SettingsData) (change : Change) → CameOf first s → new ≡ changed s change → CameOf first new
 came_more first s new change came is =
     ∥∥₁_map came (λ x. (x.0 ++ change ∷ [], is ∙ ap (λ t. changed t change) x.1 ∙ sym (after_more first x.0 change)))

@@ -1,11 +1,10 @@
 -- A line of the input, one more byte at a time.
-use Rattle.std.proofs.Common.{◌≡◌, ℕ, ◌+◌, ◌-◌, ◌≤◌, ◌<◌, ◌==◌, Bool, true, false, not, List, [], ◌∷◌, ◌++◌, length, take, drop, Option, Some, None, IfSome, refl, sym, ap, subst, ◌∙◌, append-nil, append_assoc, length-append, arith}
+use Rattle.std.proofs.Common.{◌≡◌, ℕ, ◌+◌, ◌-◌, ◌≤◌, ◌<◌, ◌==◌, true, false, List, [], ◌∷◌, ◌++◌, length, take, drop, Option, Some, None, IfSome, refl, sym, ap, subst, ◌∙◌, append_assoc, length-append, arith}
 use Rattle.std.specs.Io.BufRead.{drop_through}
 use Rattle.std.proofs.Math.Seq.{take-nil}
-use Rattle.std.proofs.lemmas.Bool.Decides.{nat_tests}
-use Rattle.std.proofs.lemmas.List.{take-append-drop, take-append-le, take_all, length-drop, nil_from_length}
-use Rattle.trace_service.specs.Commands.{line_in, line_room, TakesLine, Comes}
-use Rattle.trace_service.specs.declared.input.ReadResult.TheVariants.{Byte, Nothing, End}
+use Rattle.std.proofs.lemmas.List.{take-append-drop, take-append-le, take_all, length-drop}
+use Rattle.trace_service.specs.Commands.{line_in, line_room, Comes}
+use Rattle.trace_service.specs.declared.input.ReadResult.TheVariants.{Byte}
 
 -- of a known text these bytes of its first line were read, of which the first are kept, and the rest is left
 pub record Part (text : List ℕ) (now : Option (List ℕ)) (kept : List ℕ) : Type 0 where
@@ -42,9 +41,6 @@ behind_further b rest other = rw other refl
 line_ended : (b : ℕ) (rest : List ℕ) → (b == 10) ≡ true → line_in (b ∷ rest) ≡ []
 line_ended b rest feed = rw feed refl
 
-behind_ended : (b : ℕ) (rest : List ℕ) → (b == 10) ≡ true → drop_through 10 (b ∷ rest) ≡ rest
-behind_ended b rest feed = rw feed refl
-
 -- what was left when this came
 next_of : (rest : List ℕ) (now after : Option (List ℕ)) (b : ℕ) → now ≡ Some rest → Comes now after (Byte b) → (more : List ℕ) × (rest ≡ b ∷ more) × (after ≡ Some more)
 next_of rest now after b is came = subst (λ (n : Option (List ℕ)). IfSome n (λ text. (more : List ℕ) × (text ≡ b ∷ more) × (after ≡ Some more))) is came
@@ -64,24 +60,6 @@ reading_more (Some text) now after kept more b r came other keep =
       long = omega (arith, r.long, ap length next.1, length-append r.front (b ∷ []));
     }
 
-pub reading_same : (before now after : Option (List ℕ)) (kept : List ℕ) → Reading before now kept → Comes now after Nothing → Reading before after kept
-reading_same None now after kept r came = tt
-reading_same (Some text) now after kept r came =
-    let left : after ≡ Some r.rest = subst (λ (n : Option (List ℕ)). IfSome n (λ t. after ≡ Some t)) r.left came in
-    record { front = r.front; rest = r.rest; left = left; keeps = r.keeps; line = r.line; behind = r.behind; long = r.long }
-
-pub line_taken : (before now after : Option (List ℕ)) (kept : List ℕ) (b : ℕ) → Reading before now kept → Comes now after (Byte b) → (b == 10) ≡ true → IfSome before (λ text. TakesLine text after kept true)
-line_taken None now after kept b r came feed = tt
-line_taken (Some text) now after kept b r came feed =
-    let next = next_of r.rest now after b r.left came in
-    let line : line_in text ≡ r.front =
-    r.line ∙ (ap (λ l. r.front ++ line_in l) next.1 ∙ (ap (λ l. r.front ++ l) (line_ended b next.0 feed) ∙ append-nil r.front)) in
-    let some : 0 < length text = omega (arith, r.long, ap length next.1) in (
-      some,
-      r.keeps ∙ ap (take line_room) (sym line),
-      next.2 ∙ ap Some (sym (r.behind ∙ (ap (drop_through 10) next.1 ∙ behind_ended b next.0 feed))),
-    )
-
 -- of what is kept of so many bytes
 parts_of : (front kept : List ℕ) → kept ≡ take 4100 front → length kept + (length front - 4100) ≡ length front
 parts_of front kept is =
@@ -97,19 +75,3 @@ pub kept_none : (front old : List ℕ) (b : ℕ) → old ≡ take line_room fron
 kept_none front old b is full =
     let long : 4100 ≤ length front = omega (arith, parts_of front old is, full) in
     is ∙ sym (take-append-le 4100 front (b ∷ []) long)
-
-pub last_taken : (before now after : Option (List ℕ)) (kept : List ℕ) (none : Bool) → Reading before now kept → Comes now after End → none ≡ (length kept == 0) → IfSome before (λ text. TakesLine text after kept (not none))
-last_taken None now after kept none r came is = tt
-last_taken (Some text) now after kept true r came is =
-    let over = subst (λ (n : Option (List ℕ)). IfSome n (λ t. (t ≡ []) × (after ≡ Some []))) r.left came in
-    let empty : length kept ≡ 0 = grind (arith, nat_tests, is) in
-    nil_from_length text (omega (arith, parts_of r.front kept r.keeps, empty, r.long, ap length over.0))
-last_taken (Some text) now after kept false r came is =
-    let over = subst (λ (n : Option (List ℕ)). IfSome n (λ t. (t ≡ []) × (after ≡ Some []))) r.left came in
-    let some : 0 < length kept = grind (arith, nat_tests, is) in
-    let line : line_in text ≡ r.front = r.line ∙ (ap (λ l. r.front ++ line_in l) over.0 ∙ append-nil r.front) in
-    let long : 0 < length text = omega (arith, parts_of r.front kept r.keeps, some, r.long) in (
-      long,
-      r.keeps ∙ ap (take line_room) (sym line),
-      over.1 ∙ ap Some (sym (r.behind ∙ ap (drop_through 10) over.0)),
-    )

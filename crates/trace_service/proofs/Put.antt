@@ -1,5 +1,5 @@
 -- A text that is written front by front.
-use Rattle.std.proofs.Common.{◌≡◌, ℕ, ◌-◌, List, [], ◌++◌, length, take, drop, Option, sym, ap, ◌∙◌, subst, append_assoc, append-nil, take-append-drop, refl}
+use Rattle.std.proofs.Common.{◌≡◌, ℕ, ◌-◌, List, [], ◌++◌, length, take, drop, Option, sym, ap, ◌∙◌, append_assoc, take-append-drop, refl}
 use Rattle.std.proofs.lemmas.List.{take_rest}
 use Rattle.std.specs.Io.KnownBytes.{Appends, Keeps}
 use Rattle.std.proofs.KnownBytes.{Appends-trans, Appends-kept, Appends-nil}
@@ -23,11 +23,6 @@ front_more so_far between written text rest n f more =
 pub front_kept : (so_far between written : Option (List ℕ)) (text rest : List ℕ) → Front so_far between text rest → Keeps between written
     → Front so_far written text rest
 front_kept so_far between written text rest f keeps = (f.0, f.1, Appends-kept so_far between written f.0 f.2 keeps)
-
--- nothing is left to write
-pub front_all : (so_far written : Option (List ℕ)) (text rest : List ℕ) → rest ≡ [] → Front so_far written text rest → Appends so_far written text
-front_all so_far written text rest none f =
-    subst (Appends so_far written) (sym (f.1 ∙ ap (λ l. f.0 ++ l) none ∙ append-nil f.0)) f.2
 
 -- what is left isn't said
 pub front_of : (so_far written : Option (List ℕ)) (text rest : List ℕ) → Front so_far written text rest

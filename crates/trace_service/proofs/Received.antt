@@ -2,6 +2,7 @@
 use Rattle.std.proofs.Common.{◌≡◌, ℕ, List, [], ◌∷◌, ◌++◌, inl, inr, refl, subst, sym}
 use Rattle.export_edge.specs.Work.{Through}
 use Rattle.http_edge.specs.Message.{Request, Response}
+use Rattle.http_edge.specs.declared.message.RefusalForm.{RefusalForm}
 use Rattle.job_lane.specs.Lane.{LaneName, SeatLists, new_seat}
 use Rattle.shared_hub.specs.Logs.{CallerState}
 use Rattle.tail_settings.specs.Settings.{SettingsData}
@@ -61,21 +62,21 @@ module _ (first : SettingsData) (shards : ℕ) where
   handled_one a request told b is = (record { request = request; told = told } ∷ [], (b, is, refl))
 
   module _ (lane : LaneName) (fresh : CallerState) where
-    pub receiver_did : {S G : Type 0} (old new : S) (before after : SeatLists) (caller : S → CallerState) (moment : S → ℕ)
+    pub receiver_did : {form : RefusalForm} {S G : Type 0} (old new : S) (before after : SeatLists) (caller : S → CallerState) (moment : S → ℕ)
         (answers : S → Request → Response → S → Type 0) → caller old ≡ fresh → before ≡ new_seat lane → after ≡ before
-        → Receiving {D = S} {G = G} (λ a seen b. b ≡ a) (λ a guest b. b ≡ a) (λ a guest b. IsTalk answers a b) (λ a b. b ≡ a) old new
+        → Receiving {D = S} {G = G} (λ a seen b. b ≡ a) (λ a guest b. b ≡ a) (λ a guest b. IsTalk form answers a b) (λ a b. b ≡ a) old new
         → ((a : S) (request : Request) (told : Response) (b : S) → answers a request told b
         → IsHandled first (moment a) (moment b) (caller a) (caller b) shards request told)
         → IsThread first shards fresh (caller new) after
     unfolding Handled
-    receiver_did {S} old new before after caller moment answers is empty same received says =
+    receiver_did {form} {S} old new before after caller moment answers is empty same received says =
         let Keeps : S → S → Type 0 = λ a b. Handled (caller a, moment a) (caller b, moment b) in
         let none : (s : S) → Keeps s s = λ s. handled_none (caller s, moment s) in
         let along : (a b c : S) → Keeps a b → Keeps b c → Keeps a c =
         λ a b c one more. handled_more (caller a, moment a) (caller b, moment b) (caller c, moment c) one more in
         let each : (a : S) (request : Request) (told : Response) (b : S) → answers a request told b → Keeps a b =
         λ a request told b answer. handled_one (caller a, moment a) request told (caller b, moment b) (says a request told b answer) in
-        let all = receiving_keeps (λ a guest b. IsTalk answers a b) Keeps none along (λ a guest b talk. talk_keeps answers Keeps none along each a b talk)
+        let all = receiving_keeps (λ a guest b. IsTalk form answers a b) Keeps none along (λ a guest b talk. talk_keeps answers Keeps none along each a b talk)
         old new received in
         receiver (apart lane before after empty same) (record {
           handled = all.0;

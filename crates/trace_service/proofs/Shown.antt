@@ -2,11 +2,13 @@
 use Rattle.std.proofs.Common.{◌≡◌, ℕ, ◌+◌, ◌%◌, ◌<◌, List, [], ◌∷◌, ◌++◌, length, map, take, get_or, Bool, true, false, ◌&&◌, Result, Ok, Err, IfOk, OnOk, OnErr, Option, Some, None, IfSome, option_map, Vec, Global, refl, sym, ap, subst, ◌∙◌, string_bytes}
 use Rattle.std.proofs.lemmas.List.{map_more}
 use Rattle.admin_pages.specs.Figures.{TenantData, tenant_of}
+use Rattle.admin_pages.specs.declared.figures.LastAnswer.{LastAnswer}
 use Rattle.admin_pages.specs.declared.figures.TenantFigures.{TenantFigures}
 use Rattle.drop_ledger.specs.Ledger.{LedgerData, LedgerInvariant, ledger_of}
 use Rattle.drop_ledger.specs.Report.{report_text}
 use Rattle.admin_pages.specs.Route.{RouteData, Page, Metrics, Health, Readiness, Drain, Tenants, Add, Tenant, Retire, NoSuchPath, OtherMethod}
 use Rattle.admin_pages.specs.declared.service.ServiceFigures.{ServiceFigures}
+use Rattle.http_edge.specs.declared.message.RefusalForm.{RefusalForm}
 use Rattle.http_edge.specs.Message.{Request, Response}
 use Rattle.http_edge.specs.Seen.{response_of}
 use Rattle.http_edge.specs.declared.message.Reply.{Reply}
@@ -19,6 +21,7 @@ use Rattle.tenant_shard.specs.declared.step.Outcome.TheVariants as outcomes
 use Rattle.tenant_shard.specs.declared.waiting.Waiting.{Waiting}
 use Rattle.trace_service.specs.Comings.{Present}
 use Rattle.trace_service.specs.InForce.{CameOf}
+use Rattle.trace_service.specs.LastAnswers.{IsAnswered}
 use Rattle.trace_service.specs.Receiving.{IsTalk}
 use Rattle.trace_service.specs.Roster.{entry_of}
 use Rattle.trace_service.specs.Shown.{AreFigures, AreLooked, no_look, look_more, AdminData, IsLooked, IsSeen, LooksMore, IsOfService, IsShown, let_in, not_let_in, without_memory, route_in, Shows, ShowsTenant, shown, nobody, left, gone, OnlyLooks, OnlyLooksIf, is_for_figures, may_look, nothing, looked, refused, Tells, told_of, refused_reply}
@@ -50,7 +53,7 @@ looks_then shards old mid before (refused at tenant new more refusal) =
 pub all_looked : (shards : ℕ) (old : CallerState) {tenants : Present} {figures : List TenantData} {new : CallerState}
     → AreLooked shards old tenants figures new → OnlyLooks shards old new
 all_looked shards old no_look = nothing
-all_looked shards old (look_more tenants figures mid tenant name ledger waiting new before look seen) =
+all_looked shards old (look_more tenants figures mid tenant name ledger waiting answer new before look seen answered) =
     looked mid tenant ledger new (all_looked shards old before) look
 
 -- ---- whatever was asked, it was only looked
@@ -61,7 +64,7 @@ looks_if false shards old new same = unchanged shards old new same
 
 tenant_looked : (first : SettingsData) (shards : ℕ) (name : List ℕ) (old new : CallerState) (told : Response)
     → ShowsTenant first shards name old new told → OnlyLooks shards old new
-tenant_looked first shards name old new told (shown number section ledger waiting known has look seen reply) =
+tenant_looked first shards name old new told (shown number section ledger waiting answer known has look seen answered reply) =
     one_looked shards old number (Some ledger) new look
 tenant_looked first shards name old new told (nobody is same reply) = unchanged shards old new same
 tenant_looked first shards name old new told (left number known has same reply) = unchanged shards old new same
@@ -91,12 +94,12 @@ request_looked first shards admin request old new told (without_memory looks is)
     looks_if (may_look admin request) shards old new looks
 
 -- so it is over a whole connection, while the same caller is lent
-pub connection_looked : {H N : Type 0} (answers : H → Request → Response → H → Type 0) (caller : H → CallerState) (name : H → N)
-    (admin : H → AdminData) (first : SettingsData) (shards : ℕ) (old new : H) → IsTalk answers old new
+pub connection_looked : {form : RefusalForm} {H N : Type 0} (answers : H → Request → Response → H → Type 0) (caller : H → CallerState) (name : H → N)
+    (admin : H → AdminData) (first : SettingsData) (shards : ℕ) (old new : H) → IsTalk form answers old new
     → ((a : H) (request : Request) (told : Response) (b : H) → answers a request told b
     → IsShown first shards (admin a) request (caller a) (caller b) told × (name b ≡ name a))
     → OnlyLooks shards (caller old) (caller new) × (name new ≡ name old)
-connection_looked {H} answers caller name admin first shards old new talk says =
+connection_looked {H = H} answers caller name admin first shards old new talk says =
     let Keeps : H → H → Type 0 = λ a b. OnlyLooks shards (caller a) (caller b) × (name b ≡ name a) in
     talk_keeps answers Keeps (λ s. (nothing, refl))
     (λ a b c before after. (looks_then shards (caller a) (caller b) before.0 after.0, after.1 ∙ before.1))
@@ -107,25 +110,26 @@ connection_looked {H} answers caller name admin first shards old new talk says =
 -- ---- one tenant more
 
 pub looks_more : (shards : ℕ) (x : Entry) (old mid new : CallerState) (before after : List TenantData) (ledger : Option LedgerData)
-    (waiting : Waiting) → IsLooked old mid shards x.number ledger → IsSeen mid shards x.number waiting → new ≡ mid
-    → after ≡ told_of before (string_bytes x.name) ledger waiting → LooksMore shards x old new before after
-looks_more shards x old mid new before after ledger waiting look seen same is =
-    subst (λ s. LooksMore shards x old s before after) (sym same) (ledger, waiting, look, seen, is)
+    (waiting : Waiting) (answer : Option LastAnswer) → IsLooked old mid shards x.number ledger → IsSeen mid shards x.number waiting
+    → IsAnswered x.number answer → new ≡ mid → after ≡ told_of before (string_bytes x.name) ledger waiting answer
+    → LooksMore shards x old new before after
+looks_more shards x old mid new before after ledger waiting answer look seen answered same is =
+    subst (λ s. LooksMore shards x old s before after) (sym same) (ledger, waiting, answer, look, seen, answered, is)
 
 one_more : (xs : List Entry) (i : ℕ) (x : Entry) → i < length xs → x ≡ get_or xs i x
     → map entry_of (take (i + 1) xs) ≡ map entry_of (take i xs) ++ entry_of x ∷ []
 one_more xs i x within at = map_more entry_of xs i x within ∙ ap (λ y. map entry_of (take i xs) ++ entry_of y ∷ []) (sym at)
 
 module _ (shards : ℕ) (old : CallerState) (xs : List Entry) (i : ℕ) (x : Entry) (figures more : List TenantData)
-    (mid : CallerState) (ledger : Option LedgerData) (waiting : Waiting) (new : CallerState) where
+    (mid : CallerState) (ledger : Option LedgerData) (waiting : Waiting) (answer : Option LastAnswer) (new : CallerState) where
   pub looked_more : i < length xs → x ≡ get_or xs i x → AreLooked shards old (map entry_of (take i xs)) figures mid
-      → IsLooked mid new shards x.number ledger → IsSeen new shards x.number waiting
-      → more ≡ told_of figures (string_bytes x.name) ledger waiting
+      → IsLooked mid new shards x.number ledger → IsSeen new shards x.number waiting → IsAnswered x.number answer
+      → more ≡ told_of figures (string_bytes x.name) ledger waiting answer
       → AreLooked shards old (map entry_of (take (i + 1) xs)) more new
-  looked_more within at before look seen more_is =
+  looked_more within at before look seen answered more_is =
       subst (λ ts. AreLooked shards old ts more new) (sym (one_more xs i x within at))
       (subst (λ fs. AreLooked shards old (map entry_of (take i xs) ++ entry_of x ∷ []) fs new) (sym more_is)
-      (look_more (map entry_of (take i xs)) figures mid x.number (string_bytes x.name) ledger waiting new before look seen))
+      (look_more (map entry_of (take i xs)) figures mid x.number (string_bytes x.name) ledger waiting answer new before look seen answered))
 
 -- ---- replies
 

@@ -1,6 +1,7 @@
 -- What whoever asks for a tenant to come or to go is told. This project's own rule.
-use Rattle.std.specs.Prelude.{◌≡◌, ◌≢◌, ℕ, ◌<◌, ◌≤◌, Bool, true, false, List, [], ◌++◌, length, get_or, Option, Some, None, if◌then◌else◌, codes, bytes_eq, IsUtf8}
+use Rattle.std.specs.Prelude.{◌≡◌, ◌≢◌, ℕ, ◌<◌, ◌≤◌, Bool, true, false, List, [], ◌++◌, length, get_or, Option, Some, None, if◌then◌else◌, codes, bytes_eq, string_bytes, IsUtf8, String}
 use Rattle.std.specs.Str.{trim_end}
+use Rattle.std.specs.declared.alloc.Global.{Global}
 use Rattle.admin_pages.specs.Figures.{no_usage}
 use Rattle.admin_pages.specs.Json.{gone_text}
 use Rattle.drop_ledger.specs.Ledger.{LedgerData, LedgerInvariant}
@@ -12,14 +13,24 @@ use Rattle.settings_check.specs.Report.{IsFileReport}
 use Rattle.trace_service.specs.Notice.{came_reply, notice_of, reply_of, unknown_reply}
 use Rattle.trace_service.specs.Post.{no_memory}
 use Rattle.trace_service.specs.declared.desk.Asked.{Asked}
-use Rattle.trace_service.specs.declared.desk.Asked.TheVariants.{Told, Late, Ended}
+use Rattle.trace_service.specs.declared.desk.Asked.TheVariants.{Told, Late, Busy, Ended}
+
+-- that the tenant of this name goes
+abbrev pub going_text : List ℕ → List ℕ
+going_text name = codes "the tenant " ++ name ++ codes " is going: try again"
+
+-- another tenant is coming or going (503, RFC 9110, section 15.6.4); one that is known to go is named
+abbrev pub busy_reply : Option (String Global) → Response
+busy_reply (Some name) = notice_of 503 (codes "error") (going_text (string_bytes name))
+busy_reply None = notice_of 503 (codes "error") (codes "another tenant is coming or going: try again")
 
 -- what is told where nothing was answered in time: it goes on (202, RFC 9110, section 15.3.3), or it isn't begun since
--- the input has ended or another tenant is coming or going (503, section 15.6.4)
+-- the input has ended or another tenant is coming or going
 abbrev pub untold_reply : Asked → Response
 untold_reply Late = notice_of 202 (codes "state") (codes "it is being done")
 untold_reply Ended = notice_of 503 (codes "error") (codes "shutting down")
-untold_reply _ = notice_of 503 (codes "error") (codes "another tenant is coming or going: try again")
+untold_reply (Busy going) = busy_reply going
+untold_reply (Told line) = busy_reply None
 
 -- the line behind which the report on a good document has its settings
 abbrev pub settings_line : List ℕ
@@ -99,7 +110,8 @@ last_line name ledger = report_text name (counters_text ledger)
 -- a tenant of this name went with this ledger: nothing of it is there any more, and nothing of it waits
 abbrev pub went_reply : List ℕ → LedgerData → Response
 went_reply name ledger =
-    reply_of 200 Json (gone_text (record { name = name; ledger = ledger; usage = no_usage; ready = None }))
+    reply_of 200 Json
+    (gone_text (record { name = name; ledger = ledger; usage = no_usage; ready = None; back_end = None }))
 
 -- the tenant stays (409, RFC 9110, section 15.5.10)
 abbrev pub stays_reply : Response

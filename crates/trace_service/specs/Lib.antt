@@ -14,6 +14,7 @@ pub mod Audit
 pub mod Fault
 pub mod Receiving
 pub mod Token
+pub mod LastAnswers
 pub mod Notice
 pub mod Changed
 pub mod Shown

@@ -2,15 +2,16 @@
 use Rattle.std.specs.Prelude.{◌⊎◌, ℕ, List, Bool, true, false, Option, Some, None}
 use Rattle.http_edge.specs.Message.{Request, Response}
 use Rattle.http_edge.specs.Talk.{Talk, Begins}
+use Rattle.http_edge.specs.declared.message.RefusalForm.{RefusalForm}
 use Rattle.http_edge.specs.declared.wire.EdgeFault.{EdgeFault}
 
 -- over a connection these replies were given to the messages in the bytes read, in order, and nothing else was written,
--- or a fault broke that off
-abbrev pub IsTalk : {H : Type 0} → (H → Request → Response → H → Type 0) → H → H → Type 0
-IsTalk answers old new =
+-- by who has refusals in this form, or a fault broke that off
+abbrev pub IsTalk : RefusalForm → {H : Type 0} → (H → Request → Response → H → Type 0) → H → H → Type 0
+IsTalk form answers old new =
     (read : List ℕ) × (written : List ℕ)
-    × (((over : Bool) × Talk answers old read new written over)
-    ⊎ ((fault : EdgeFault) × Begins fault answers old read new written))
+    × (((over : Bool) × Talk form answers old read new written over)
+    ⊎ ((fault : EdgeFault) × Begins form fault answers old read new written))
 
 -- the guest was served, where the end was then not seen, and else let go
 abbrev pub Served : {D G : Type 0} → (D → Bool → D → Type 0) → (D → G → D → Type 0) → D → G → D → Type 0

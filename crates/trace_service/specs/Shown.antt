@@ -8,6 +8,7 @@ use Rattle.admin_pages.specs.Metrics.{tenants_text as metrics_text}
 use Rattle.admin_pages.specs.Route.{RouteData, Page, Metrics, Health, Readiness, Drain, Tenants, Add, Tenant, Retire, NoSuchPath, OtherMethod, route_of}
 use Rattle.admin_pages.specs.Service.{service_text}
 use Rattle.admin_pages.specs.Settings.{settled_text}
+use Rattle.admin_pages.specs.declared.figures.LastAnswer.{LastAnswer}
 use Rattle.admin_pages.specs.declared.figures.TenantUsage.{TenantUsage}
 use Rattle.admin_pages.specs.declared.service.ServiceFigures.{ServiceFigures}
 use Rattle.drop_ledger.specs.Ledger.{LedgerData, LedgerInvariant}
@@ -31,6 +32,7 @@ use Rattle.tenant_shard.specs.declared.waiting.Waiting.{Waiting}
 use Rattle.trace_service.specs.Changed.{TellsAdding, TellsRetiring}
 use Rattle.trace_service.specs.Comings.{Present}
 use Rattle.trace_service.specs.InForce.{CameOf}
+use Rattle.trace_service.specs.LastAnswers.{IsAnswered}
 use Rattle.trace_service.specs.Notice.{notice_of, reply_of, not_allowed, unknown_reply}
 use Rattle.trace_service.specs.Post.{no_memory}
 use Rattle.trace_service.specs.Token.{is_let_in}
@@ -73,31 +75,37 @@ usage_shown waiting = record {
   queued_batches_limit = waiting.usage.queued_batches_limit;
 }
 
--- the figures of a tenant with these counters that waits so
-abbrev pub figures_with : List ℕ → LedgerData → Waiting → TenantData
-figures_with name ledger waiting =
-    record { name = name; ledger = ledger; usage = usage_shown waiting; ready = waiting.tenant_ready }
+-- the figures of a tenant with these counters that waits so, whose back end answered this last
+abbrev pub figures_with : List ℕ → LedgerData → Waiting → Option LastAnswer → TenantData
+figures_with name ledger waiting answer = record {
+  name = name;
+  ledger = ledger;
+  usage = usage_shown waiting;
+  ready = waiting.tenant_ready;
+  back_end = answer;
+}
 
 -- the tenants of whom something was told, behind others
-abbrev pub told_of : List TenantData → List ℕ → Option LedgerData → Waiting → List TenantData
-told_of figures name (Some ledger) waiting = figures ++ figures_with name ledger waiting ∷ []
-told_of figures name None waiting = figures
+abbrev pub told_of : List TenantData → List ℕ → Option LedgerData → Waiting → Option LastAnswer → List TenantData
+told_of figures name (Some ledger) waiting answer = figures ++ figures_with name ledger waiting answer ∷ []
+told_of figures name None waiting answer = figures
 
 -- a tenant was asked for so, its counters first, and what was told of it, if anything, is behind the figures of others
 abbrev pub LooksMore : ℕ → Entry → CallerState → CallerState → List TenantData → List TenantData → Type 0
 LooksMore shards tenant old new before after =
-    (ledger : Option LedgerData) × (waiting : Waiting) × IsLooked old new shards tenant.number ledger
-    × IsSeen new shards tenant.number waiting
-    × (after ≡ told_of before (string_bytes tenant.name) ledger waiting)
+    (ledger : Option LedgerData) × (waiting : Waiting) × (answer : Option LastAnswer)
+    × IsLooked old new shards tenant.number ledger × IsSeen new shards tenant.number waiting
+    × IsAnswered tenant.number answer
+    × (after ≡ told_of before (string_bytes tenant.name) ledger waiting answer)
 
 -- these tenants were asked for so, one after the other, and this was told of those that hadn't gone
 pub data AreLooked (shards : ℕ) (old : CallerState) : Present → List TenantData → CallerState → Type 0 where
   no_look : AreLooked shards old [] [] old
   look_more : (tenants : Present) (figures : List TenantData) (mid : CallerState) (tenant : ℕ) (name : List ℕ)
-      (ledger : Option LedgerData) (waiting : Waiting) (new : CallerState)
+      (ledger : Option LedgerData) (waiting : Waiting) (answer : Option LastAnswer) (new : CallerState)
       → AreLooked shards old tenants figures mid → IsLooked mid new shards tenant ledger
-      → IsSeen new shards tenant waiting
-      → AreLooked shards old (tenants ++ (tenant, name) ∷ []) (told_of figures name ledger waiting) new
+      → IsSeen new shards tenant waiting → IsAnswered tenant answer
+      → AreLooked shards old (tenants ++ (tenant, name) ∷ []) (told_of figures name ledger waiting answer) new
 
 -- nothing was done but that counters were asked for, in as many steps as one likes, of which some were refused memory
 pub data OnlyLooks (shards : ℕ) (old : CallerState) : CallerState → Type 0 where
@@ -179,10 +187,11 @@ HasSection first number section = (now : SettingsData) × CameOf first now × (s
 -- settings say or its shard
 pub data ShowsTenant (first : SettingsData) (shards : ℕ) (name : List ℕ) (old new : CallerState) (told : Response)
     : Type 0 where
-  shown : (number : ℕ) (section : SectionData) (ledger : LedgerData) (waiting : Waiting) → IsKnown first name number
+  shown : (number : ℕ) (section : SectionData) (ledger : LedgerData) (waiting : Waiting) (answer : Option LastAnswer)
+      → IsKnown first name number
       → HasSection first number (Some section) → IsLooked old new shards number (Some ledger)
-      → IsSeen new shards number waiting
-      → told ≡ reply_of 200 media.Json (settled_text (figures_with name ledger waiting) section)
+      → IsSeen new shards number waiting → IsAnswered number answer
+      → told ≡ reply_of 200 media.Json (settled_text (figures_with name ledger waiting answer) section)
       → ShowsTenant first shards name old new told
   nobody : IsNobody first name → new ≡ old → told ≡ unknown_reply → ShowsTenant first shards name old new told
   left : (number : ℕ) → IsKnown first name number → HasSection first number None → new ≡ old → told ≡ unknown_reply

@@ -7,8 +7,10 @@ ghost use Rattle.admin_pages.specs.Service.{service_text};
 ghost use Rattle.admin_pages.specs.declared.service.ServiceFigures.{ServiceFigures};
 ghost use Rattle.drop_ledger.specs.Ledger.{ledger_of};
 ghost use Rattle.http_edge.specs.Seen.{header_of, response_of, seen};
+ghost use Rattle.http_edge.specs.declared.message.RefusalForm.TheVariants as forms;
 ghost use Rattle.machine_hub.specs.Hub.{IsRefusedOn};
 ghost use Rattle.trace_service.specs.Changed.{TellsAdding};
+ghost use Rattle.trace_service.specs.LastAnswers.{IsAnswered};
 ghost use Rattle.trace_service.specs.Receiving.{IsTalk};
 ghost use Rattle.trace_service.specs.Roster.{entry_of};
 ghost use Rattle.trace_service.specs.Shown.{AreFigures, AreLooked, IsKnown, IsLooked, IsNobody, IsOfService, IsSeen, IsShown, OnlyLooks, LooksMore, OnlyLooksIf, ShowsMetrics, ShowsReply, ShowsTenant, ShowsTenants, Tells, TellsGoing, TellsReadiness, admin_of, drained_reply, is_for_figures, may_look, page_reply, refused_reply, told_of, usage_shown};
@@ -30,11 +32,13 @@ use crate::shared::ServiceLimits;
 use crate::visit::{Client, Visit};
 use admin_page::PAGE;
 use admin_pages::{
-    AdminRoute, ServiceFigures, TenantFigures, TenantUsage, admin_route, put_service,
+    AdminRoute, LastAnswer, ServiceFigures, TenantFigures, TenantUsage, admin_route, put_service,
     put_settled_tenant, put_tenant_metrics, put_tenants, read_report, same_token,
 };
 use export_edge::Beat;
-use http_edge::{EdgeFault, Handler, Header, HttpMessage, MediaType, Reply, only_value, serve};
+use http_edge::{
+    EdgeFault, Handler, Header, HttpMessage, MediaType, RefusalForm, Reply, only_value, serve,
+};
 use http_line::StreamLine;
 use http1::text::eq_ignore_case;
 use otlp_front::path;
@@ -61,7 +65,10 @@ pub(crate) struct AdminHandler<'c, 'h, J: Naming, R> {
 
 impl<'c, 'h, J: Naming, R: Wait + Clock> Handler for AdminHandler<'c, 'h, J, R> {
     ghost use Rattle.std.specs.Prelude.{◌≡◌, length};
+    ghost use Rattle.http_edge.specs.declared.message.RefusalForm.TheVariants as forms;
     ghost use Rattle.trace_service.specs.Shown.{IsShown, admin_of};
+
+    ghost refusals = { forms.Json };
 
     ghost answers = { λ old request told new.
         IsShown J.first (length old.context.now.hub.now)
@@ -70,6 +77,12 @@ impl<'c, 'h, J: Naming, R: Wait + Clock> Handler for AdminHandler<'c, 'h, J, R> 
         × (admin_of new.port new.limits new.lane_capacity
         ≡ admin_of old.port old.limits old.lane_capacity)
         × (new.context.ghost_name ≡ old.context.ghost_name) };
+
+    fn refusals() -> RefusalForm
+        ensures { result ≡ forms.Json }
+    {
+        RefusalForm::Json
+    }
 
     /// Who isn't let in is refused before the body comes.
     fn reply_to_head(&self, head: &HttpMessage) -> Option<Reply> {
@@ -114,7 +127,8 @@ impl<'c, 'h, J: Naming, R: Wait + Clock> AdminHandler<'c, 'h, J, R> {
 
     /// Serves a client to its end.
     fn serve<T: Threads + Sync>(&mut self, rt: &T, client: &Client, buffer: &mut Vec<u8>)
-        ensures { IsTalk ⟦<AdminHandler<'c, 'h, J, R> as Handler>⟧.answers self.old self.new }
+        ensures { IsTalk forms.Json ⟦<AdminHandler<'c, 'h, J, R> as Handler>⟧.answers self.old
+            self.new }
     {
         let mut beat = self.context.beat();
         let mut line = StreamLine::new(Visit::new(self.context.rt(), client));
@@ -258,7 +272,8 @@ impl<'c, 'h, J: Naming, R: Wait + Clock> AdminHandler<'c, 'h, J, R> {
     {
         let counters = self.counters(tenant.number)?;
         let waiting = self.waiting(tenant.number);
-        push_figures(figures, tenant, counters, waiting)
+        let answer = self.last_answer(tenant.number);
+        push_figures(figures, tenant, counters, waiting, answer)
     }
 
     /// The counters of the tenant of this number. None where it has gone.
@@ -292,6 +307,13 @@ impl<'c, 'h, J: Naming, R: Wait + Clock> AdminHandler<'c, 'h, J, R> {
         ensures lent { self.new.context.ghost_name ≡ self.old.context.ghost_name }
     {
         self.context.waiting(tenant)
+    }
+
+    /// What the back end of the tenant of this number answered last.
+    fn last_answer(&self, tenant: u32) -> Option<LastAnswer>
+        ensures { IsAnswered tenant result }
+    {
+        self.signals().last_answers().answer_of(tenant)
     }
 
     /// All figures, for a scraper.
@@ -400,6 +422,7 @@ impl<'c, 'h, J: Naming, R: Wait + Clock> AdminHandler<'c, 'h, J, R> {
             counters,
             usage: usage_shown(&waiting),
             ready: waiting.tenant_ready,
+            back_end: self.last_answer(number),
         };
         let mut text = Vec::new(alloc);
         put_settled_tenant(alloc, &mut text, &figures, &section)?;
@@ -506,10 +529,11 @@ fn push_figures(
     tenant: &Present,
     counters: Option<[u64; 14]>,
     waiting: Waiting,
+    answer: Option<LastAnswer>,
 ) -> Result<(), AllocError>
     ensures { OnOk result (map tenant_of figures.new.items ≡ told_of
         (map tenant_of figures.old.items) (string_bytes tenant.now.name)
-        (option_map ledger_of counters) waiting) }
+        (option_map ledger_of counters) waiting answer) }
 {
     let Some(counters) = counters else {
         return Ok(());
@@ -520,6 +544,7 @@ fn push_figures(
         counters,
         usage: usage_shown(&waiting),
         ready: waiting.tenant_ready,
+        back_end: answer,
     })?;
     Ok(())
 }

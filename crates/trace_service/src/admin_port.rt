@@ -20,8 +20,8 @@ const LONGEST_REST: u64 = 1;
 /// So many seconds a request may take.
 const LONGEST_REQUEST: u64 = 5;
 
-/// So many bytes a request may have. It is whole before its token is looked at, so whoever reaches the address can have
-/// all threads hold as many; a document of settings has far fewer.
+/// So many bytes a request may have. Of who isn't let in none is kept; whoever is, which without a token is whoever
+/// reaches the address, can have all threads hold as many. A document of settings has far fewer.
 const LARGEST_REQUEST: u64 = 1_048_576;
 
 /// Where a service is looked after: at an address of its own.
@@ -38,7 +38,7 @@ pub struct AdminPort<'a> {
     pub version: &'static str,
 }
 
-/// The same, as its threads share it.
+/// Where a service is looked after, and who comes in there, as its threads share it.
 #[derive(Drop)]
 pub(crate) struct AdminEntrance<'h> {
     pub port: AdminPort<'h>,

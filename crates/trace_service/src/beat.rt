@@ -2,6 +2,7 @@
 
 use crate::gates::Gates;
 use crate::large_bodies::LargeBodies;
+use crate::last_answers::LastAnswers;
 use crate::pace::{Pace, Paces, Pause};
 use crate::reserve::Reserve;
 use crate::rest::{Bells, Rest};
@@ -26,6 +27,7 @@ pub(crate) struct Signals {
     gates: Gates,
     large_bodies: LargeBodies,
     tally: Tally,
+    last_answers: LastAnswers,
 }
 
 impl Signals {
@@ -42,6 +44,7 @@ impl Signals {
             gates: Gates::new(alloc)?,
             large_bodies: LargeBodies::new(),
             tally: Tally::new(),
+            last_answers: LastAnswers::new(alloc)?,
         })
     }
 
@@ -96,6 +99,11 @@ impl Signals {
     /// What threads count of what they do.
     pub fn tally(&self) -> &Tally {
         &self.tally
+    }
+
+    /// What tenants' back ends answered last.
+    pub fn last_answers(&self) -> &LastAnswers {
+        &self.last_answers
     }
 
     /// One thread more is at its work: how many are now. The last of so many wakes the others.

@@ -1,9 +1,10 @@
 //! What whoever asks for a change of the tenants is told.
 
-ghost use Rattle.std.specs.Prelude.{◌≡◌, ◌≢◌, ◌↔◌, ◌++◌, ℕ, List, [], IsTrue, IfOk, IfSome, codes, option_copied, option_map, string_bytes};
+ghost use Rattle.std.specs.Prelude.{◌≡◌, ◌≢◌, ◌↔◌, ◌++◌, ℕ, List, [], None, IsTrue, IfOk, IfSome, codes, option_copied, option_map, string_bytes};
 ghost use Rattle.drop_ledger.specs.Ledger.{LedgerData, LedgerInvariant, ledger_of};
 ghost use Rattle.http_edge.specs.Seen.{response_of};
-ghost use Rattle.trace_service.specs.Changed.{HasWarnings, SaysCame, TellsAdded, TellsAdding, TellsCome, TellsFaulty, TellsRefused, TellsRetired, TellsRetiring, last_line, refused_reply, untold_reply, went_reply};
+ghost use Rattle.trace_service.specs.Changed.{HasWarnings, SaysCame, TellsAdded, TellsAdding, TellsCome, TellsFaulty, TellsRefused, TellsRetired, TellsRetiring, busy_reply, going_text, last_line, refused_reply, untold_reply, went_reply};
+ghost use Rattle.trace_service.specs.Notice.{notice_of};
 
 use crate::desk::Asked;
 use crate::notice::{came, notice, shown, unknown};
@@ -27,7 +28,7 @@ pub(crate) fn added(alloc: Global, asked: Asked, document: &[u8]) -> Result<Repl
     }
 }
 
-/// The same, where this line answered.
+/// What is told of the coming of a document's tenant, where this line answered.
 fn add_answered(alloc: Global, line: &str, document: &[u8]) -> Result<Reply, AllocError>
     ensures { IfOk result (λ reply. TellsAdded document.now line.now (response_of reply)) }
 {
@@ -117,16 +118,25 @@ pub(crate) fn retired(alloc: Global, asked: Asked, name: &str) -> Result<Reply, 
     ensures { IfOk result (λ reply. TellsRetiring asked name.now (response_of reply)) }
 {
     match asked {
-        Asked::Told(line) if line.is_empty() => unknown(alloc),
-        Asked::Told(line) => match str::from_utf8(line.as_slice()) {
-            Ok(line) => retire_answered(alloc, line, name),
-            Err(_) => Ok(without_memory(alloc)),
-        },
+        Asked::Told(line) => retire_told(alloc, line.as_slice(), name),
         asked => untold(alloc, &asked),
     }
 }
 
-/// The same, where this line answered, which has a byte.
+/// What is told of the going of the tenant of this name, where these bytes answered.
+fn retire_told(alloc: Global, line: &[u8], name: &str) -> Result<Reply, AllocError>
+    ensures { IfOk result (λ reply. TellsRetired name.now line.now (response_of reply)) }
+{
+    if line.is_empty() {
+        return unknown(alloc);
+    }
+    match str::from_utf8(line) {
+        Ok(line) => retire_answered(alloc, line, name),
+        Err(_) => Ok(without_memory(alloc)),
+    }
+}
+
+/// What is told of the going of the tenant of this name, where this line answered, which has a byte.
 fn retire_answered(alloc: Global, line: &str, name: &str) -> Result<Reply, AllocError>
     requires { line.now ≢ [] }
     ensures { IfOk result (λ reply. TellsRetired name.now line.now (response_of reply)) }
@@ -152,6 +162,7 @@ fn went(alloc: Global, name: &str, counters: [u64; 14]) -> Result<Reply, AllocEr
         counters,
         usage: TenantUsage::none(),
         ready: None,
+        back_end: None,
     };
     let mut text = Vec::new(alloc);
     put_gone(alloc, &mut text, &figures)?;
@@ -201,11 +212,46 @@ fn untold(alloc: Global, asked: &Asked) -> Result<Reply, AllocError>
     match asked {
         Asked::Late => notice(alloc, 202, "state", "it is being done"),
         Asked::Ended => notice(alloc, 503, "error", "shutting down"),
-        Asked::Busy | Asked::Told(_) => notice(
-            alloc,
-            503,
-            "error",
-            "another tenant is coming or going: try again",
-        ),
+        Asked::Busy { going } => busy(alloc, going),
+        Asked::Told(_) => another(alloc),
     }
+}
+
+/// That another change is being made: the tenant of this name goes, if one is known to.
+fn busy(alloc: Global, going: &Option<String>) -> Result<Reply, AllocError>
+    ensures { IfOk result (λ reply. response_of reply ≡ busy_reply going.now) }
+{
+    match going {
+        Some(name) => still_going(alloc, name.as_str()),
+        None => another(alloc),
+    }
+}
+
+/// That the tenant of this name goes.
+fn still_going(alloc: Global, name: &str) -> Result<Reply, AllocError>
+    ensures { IfOk result (λ reply. response_of reply ≡ notice_of 503 (codes "error")
+        (going_text name.now)) }
+{
+    let text = text_of_going(alloc, name)?;
+    notice(alloc, 503, "error", text.as_str())
+}
+
+/// That the tenant of this name goes, in words.
+fn text_of_going(alloc: Global, name: &str) -> Result<String, AllocError>
+    ensures { IfOk result (λ text. string_bytes text ≡ going_text name.now) }
+{
+    let text = format!(in alloc; "the tenant {name} is going: try again")?;
+    Ok(text)
+}
+
+/// That another tenant comes or goes.
+fn another(alloc: Global) -> Result<Reply, AllocError>
+    ensures { IfOk result (λ reply. response_of reply ≡ busy_reply None) }
+{
+    notice(
+        alloc,
+        503,
+        "error",
+        "another tenant is coming or going: try again",
+    )
 }

@@ -12,7 +12,7 @@ use crate::roster::Present;
 use crate::teller::Teller;
 use bytes::Bytes;
 use export_edge::{AnswerRefused, AnswerSink, Beat, JobSource, TurnResult};
-use http_edge::{Handler, HttpMessage, Reply};
+use http_edge::{Handler, HttpMessage, RefusalForm, Reply};
 use job_lane::Job;
 use otlp_front::RouteRefusal;
 use send_retry::Answer;
@@ -293,8 +293,9 @@ impl<'h, J: Naming, R: Wait + Clock> WorkerContext<'h, J, R> {
     ghost use Rattle.std.specs.Prelude.{◌≡◌};
 
     /// Asks until when its shard has nothing to do by the time alone, behind a turn that found nothing. A shard is
-    /// asked about a tenant, and tells beside that when it is due itself: the tenant whose number is the shard's own is
-    /// in it, since there are more shards than that, and needn't be present. What is told of it isn't looked at.
+    /// asked about a tenant, and tells beside that when it is due itself. The shard's own index is passed as that
+    /// tenant's number: a tenant is at the shard of its number modulo the number of shards, which gives the index back,
+    /// since there are more shards than that. The tenant needn't be present, and what is told of it isn't looked at.
     fn note_due(&mut self)
         ensures shard { self.new.shard ≡ self.old.shard }
         ensures caller { self.new.caller ≡ self.old.caller }
@@ -374,6 +375,7 @@ impl<'h, J: Naming, R: Wait + Clock> AnswerSink for WorkerContext<'h, J, R> {
                 self.teller.answered(shard);
                 self.tell_turner(tenant);
                 self.signals().tally().end_job(answer);
+                self.signals().last_answers().note(tenant, now, answer);
                 Ok(())
             }
             Err(_) => {
@@ -385,11 +387,20 @@ impl<'h, J: Naming, R: Wait + Clock> AnswerSink for WorkerContext<'h, J, R> {
 }
 
 impl<'h, J: Naming, R: Wait + Clock> Handler for WorkerContext<'h, J, R> {
-    ghost use Rattle.std.specs.Prelude.{length};
+    ghost use Rattle.std.specs.Prelude.{◌≡◌, length};
+    ghost use Rattle.http_edge.specs.declared.message.RefusalForm.TheVariants as forms;
     ghost use Rattle.trace_service.specs.Post.{IsHandled};
+
+    ghost refusals = { forms.Status };
 
     ghost answers = { λ old request told new. IsHandled J.first old.beat.last new.beat.last old.caller new.caller
         (length old.hub.now) request told };
+
+    fn refusals() -> RefusalForm
+        ensures { result ≡ forms.Status }
+    {
+        RefusalForm::Status
+    }
 
     /// Who goes to no tenant is refused before the body comes, by the settings that are in force then.
     fn reply_to_head(&self, head: &HttpMessage) -> Option<Reply> {

@@ -6,7 +6,7 @@ use std::alloc::Global;
 use std::io::{ErrorKind, Read, Write};
 use std::sync::{Condvar, Mutex, Wait};
 use std::time::{Clock, Duration, Instant};
-use std::{io, mem};
+use std::{io, mem, str};
 
 /// Who waits looks again after so many milliseconds at most.
 const LOOK: u64 = 1_000;
@@ -25,6 +25,7 @@ enum Matter {
     },
     /// The line was read, and is answered by these bytes so far. Who asked may have left.
     Heard {
+        line: Vec<u8>,
         document: Vec<u8>,
         told: Vec<u8>,
         is_awaited: bool,
@@ -47,8 +48,9 @@ pub(crate) enum Asked {
     Told(Vec<u8>),
     /// It is being done, for longer than was to be waited.
     Late,
-    /// Something else is being done, so nothing was asked.
-    Busy,
+    /// Something else is being done, so nothing was asked: the tenant of this name goes, or where there is none another
+    /// comes, or it isn't known.
+    Busy { going: Option<String> },
     /// The input has ended, so nothing was asked.
     Ended,
 }
@@ -120,7 +122,8 @@ impl AdminDesk {
             return Some(Asked::Ended);
         }
         if !matches!(state.matter, Matter::Nothing) {
-            return Some(Asked::Busy);
+            let going = who_goes(self.alloc, &state.matter);
+            return Some(Asked::Busy { going });
         }
         state.matter = Matter::Asked { line, document };
         self.bell.notify_all();
@@ -146,15 +149,21 @@ impl AdminDesk {
         let mut state = self.state.lock(rt);
         match mem::replace(&mut state.matter, Matter::Nothing) {
             Matter::Told(told) => Asked::Told(told),
-            Matter::Heard { document, told, .. } => {
+            Matter::Heard {
+                line,
+                document,
+                told,
+                ..
+            } => {
                 state.matter = Matter::Heard {
+                    line,
                     document,
                     told,
                     is_awaited: false,
                 };
                 Asked::Late
             }
-            Matter::Nothing | Matter::Asked { .. } => Asked::Busy,
+            Matter::Nothing | Matter::Asked { .. } => Asked::Busy { going: None },
         }
     }
 
@@ -165,6 +174,7 @@ impl AdminDesk {
             Matter::Heard {
                 told,
                 is_awaited,
+                line: _,
                 document: _,
             } => {
                 if is_awaited {
@@ -194,6 +204,7 @@ impl AdminDesk {
                 let count = line.len().min(room.len());
                 room[..count].copy_from_slice(&line[..count]);
                 state.matter = Matter::Heard {
+                    line,
                     document,
                     told,
                     is_awaited: true,
@@ -223,6 +234,17 @@ impl AdminDesk {
             _ => None,
         }
     }
+}
+
+/// The name of the tenant that is asked to go. None where another comes, or memory is refused.
+fn who_goes(alloc: Global, matter: &Matter) -> Option<String> {
+    let line = match matter {
+        Matter::Asked { line, .. } | Matter::Heard { line, .. } => line.as_slice(),
+        Matter::Nothing | Matter::Told(_) => return None,
+    };
+    let named = line.strip_prefix(b"retire ".as_slice())?;
+    let name = str::from_utf8(named).ok()?.trim_end();
+    String::from_str(alloc, name).ok()
 }
 
 /// The input of a service that is looked after: the lines that are asked for at its desk, until it is to end.

@@ -36,7 +36,7 @@ impl<'h> Entrance<'h> {
         }
     }
 
-    /// The same, for clients who come in until the work is over.
+    /// One at this listener for clients who come in until the work is over, also behind the end of the input.
     pub fn to_the_end(listener: &'h TcpListener, patience: Patience) -> Entrance<'h> {
         Entrance {
             is_open_late: true,

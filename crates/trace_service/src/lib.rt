@@ -13,6 +13,7 @@
 #![tactic(auto)]
 
 ghost use Rattle.trace_service.specs.Jobs.{PoppedWereGiven};
+ghost use Rattle.trace_service.specs.LastAnswers.{AreToldAsNoted, IsNothingTold};
 ghost use Rattle.trace_service.specs.Post.{StatusesAgree};
 ghost use Rattle.trace_service.specs.Retried.{RetryDoubtsHold, RetriesAreMade};
 ghost use Rattle.std.specs.Prelude.{◌≡◌, ℕ, List, Some, true};
@@ -40,6 +41,7 @@ mod gates;
 mod in_force;
 mod input;
 mod large_bodies;
+mod last_answers;
 mod lingering;
 mod memory;
 mod naming;
@@ -100,4 +102,12 @@ pub fn limits_agree()
     ensures bodies { max_body ≡ most_body_bytes }
     ensures addresses { (text : List ℕ) → is_address text ≡ true → as_address text ≡ Some text }
     ensures names { (text : List ℕ) → is_name text ≡ is_name_in_scripts text }
+{}
+
+/// What is told of a tenant's back end is what was noted of this tenant's answer, but that there is no room for moments
+/// behind the first two years: of an answer of another tenant, at the same place, nothing is told. A law over the
+/// definitions.
+pub fn answers_are_told_as_noted()
+    ensures noted { AreToldAsNoted }
+    ensures nothing { IsNothingTold }
 {}

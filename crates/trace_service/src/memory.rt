@@ -17,7 +17,7 @@ pub(crate) fn resident_bytes<R: Wait>(rt: &R, status: &Mutex<File>) -> Option<u6
     resident_in(&room[..count])
 }
 
-/// The same, by the text of that file, which has a line as `VmRSS:     5432 kB`.
+/// How many bytes of memory a process has by the text of that file, which has a line as `VmRSS:     5432 kB`.
 fn resident_in(text: &[u8]) -> Option<u64> {
     let text = str::from_utf8(text).ok()?;
     let (_, behind) = text.split_once("\nVmRSS:")?;

@@ -51,7 +51,7 @@ pub(crate) fn came(alloc: Global, name: &str, warnings: &str) -> Result<Reply, A
     }
 }
 
-/// The same with its warnings.
+/// A tenant of this name came, and these warnings of its document are told with it.
 fn warned(alloc: Global, name: &str, warnings: &str) -> Result<Reply, AllocError>
     ensures { IfOk result (λ reply. response_of reply ≡ warned_reply name.now warnings.now) }
 {

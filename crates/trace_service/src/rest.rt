@@ -53,7 +53,7 @@ impl Bells {
         }
     }
 
-    /// The same of every shard.
+    /// Another turn of each shard may be worth while.
     pub fn ring_shards(&self) {
         for bell in self.shards.as_slice() {
             bell.notify_one();

@@ -154,7 +154,7 @@ struct Opened {
     seats: Vec<LaneSeat>,
 }
 
-/// The same, with a hub, a lane and settings that have a name.
+/// Runs the service that is opened, with a name for its hub, its lane and its settings, and closes what was opened.
 fn run_named<J, R, D, I, O, L>(
     start: &ServiceStart<'_, R, D>,
     settings: Settings,

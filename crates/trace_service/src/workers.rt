@@ -148,32 +148,7 @@ where
                 &mut beat,
             );
         }
-        Role::Sender => {
-            let mut beat = worker.context.sender_beat();
-            let back_ends = BackEnds {
-                rt: shared.rt,
-                settings: shared.settings,
-                tally: shared.beat.signals().tally(),
-            };
-            let limit = shared.limits.back_end_timeout;
-            let over_tcp = TcpBackEnd::new(shared.rt, shared.alloc, back_ends, limit);
-            let signals = worker.context.signals();
-            let mut back_end = ToldBackEnd {
-                rt: shared.rt,
-                alloc: shared.alloc,
-                settings: shared.settings,
-                is_verbose: shared.is_verbose,
-                back_end: PatientBackEnd::new(shared.rt, shared.alloc, signals, over_tcp),
-            };
-            run_sender(
-                shared.rt,
-                shared.lane,
-                &mut worker.seat,
-                &mut back_end,
-                &mut worker.context,
-                &mut beat,
-            );
-        }
+        Role::Sender => send_all(shared, worker),
         Role::Admin => look_after(shared, &mut worker.context, &mut worker.buffer),
         Role::Receiver => receive_all(
             shared.rt,
@@ -182,6 +157,42 @@ where
             &mut worker.buffer,
         ),
     }
+}
+
+/// Sends one job after another to its tenant's back end, and hands in the answers, until the work is over.
+fn send_all<'h, J, R>(shared: &Shared<'h, J, R>, worker: &mut Worker<'h, J, R>)
+where
+    J: Naming,
+    R: Net<Listener = TcpListener, Stream = TcpStream> + Threads + Wait + Clock + Eprint + Sync,
+    requires lane { shared.now.lane.now.name ≡ J.lane }
+    requires fresh { worker.old.context.caller ≡ J.fresh }
+    requires new { worker.old.seat ≡ new_seat J.lane }
+    ensures { IsThread J.first (length J.slots) J.fresh worker.new.context.caller worker.new.seat }
+{
+    let mut beat = worker.context.sender_beat();
+    let back_ends = BackEnds {
+        rt: shared.rt,
+        settings: shared.settings,
+        tally: shared.beat.signals().tally(),
+    };
+    let limit = shared.limits.back_end_timeout;
+    let over_tcp = TcpBackEnd::new(shared.rt, shared.alloc, back_ends, limit);
+    let signals = worker.context.signals();
+    let mut back_end = ToldBackEnd {
+        rt: shared.rt,
+        alloc: shared.alloc,
+        settings: shared.settings,
+        is_verbose: shared.is_verbose,
+        back_end: PatientBackEnd::new(shared.rt, shared.alloc, signals, over_tcp),
+    };
+    run_sender(
+        shared.rt,
+        shared.lane,
+        &mut worker.seat,
+        &mut back_end,
+        &mut worker.context,
+        &mut beat,
+    );
 }
 
 /// Those who let memory go have heaps of their own before posts take what there is.
@@ -256,6 +267,7 @@ impl<'h, J: Naming, R: Wait + Clock> Reception for WorkerContext<'h, J, R> {
     type Door = Entrance<'h>;
 
     ghost use Rattle.std.specs.Prelude.{◌≡◌};
+    ghost use Rattle.http_edge.specs.declared.message.RefusalForm.TheVariants as forms;
     ghost use Rattle.trace_service.specs.Receiving.{IsTalk};
 
     // What threads told one another and who comes is not known; no shard is called meanwhile.
@@ -264,7 +276,8 @@ impl<'h, J: Naming, R: Wait + Clock> Reception for WorkerContext<'h, J, R> {
     ghost takes = { λ old _ new. new ≡ old };
 
     // Over whatever connection, what is written are this context's replies to what is read.
-    ghost serves = { λ old _ new. IsTalk ⟦<WorkerContext<'h, J, R> as Handler>⟧.answers old new };
+    ghost serves = { λ old _ new. IsTalk forms.Status
+        ⟦<WorkerContext<'h, J, R> as Handler>⟧.answers old new };
 
     ghost rests = { λ old new. new ≡ old };
 

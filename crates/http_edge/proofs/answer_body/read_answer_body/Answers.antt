@@ -5,7 +5,7 @@ use Rattle.http_edge.proofs.answer_body.read_answer_body.Goals as goal
 pub returns-then-is_chunked-clause-on_success : goal.returns-then-is_chunked-clause-on_success
 returns-then-is_chunked-clause-on_success g c =
     let e = c.if-is_chunked.ensures.yes refl in
-    rw e c.in_ok-chunks.ensures.on_success
+    rw e c.read_answer_chunks.ensures.on_success
 
 pub returns-clause-on_success : goal.returns-clause-on_success
 returns-clause-on_success g c =

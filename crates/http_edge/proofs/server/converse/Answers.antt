@@ -14,7 +14,7 @@ messages-preserved g c =
       read = inv.read ++ on.read;
       exchanges = inv.exchanges ++ on.exchange ∷ [];
       so_far = (
-        then_to inv.so_far.0 on.moves refl (sym (told_more inv.exchanges on.exchange)),
+        then_to inv.so_far.0 on.moves refl (sym (told_more g.H.Handler.refusals inv.exchanges on.exchange)),
         runs_more g.H.Handler.answers c.args.handler.now c.messages.handler c.exchange.new.handler inv.exchanges
             on.exchange inv.so_far.1 on.answered,
         asks_more inv.exchanges on.exchange (inv.read ++ on.read) (c.messages.buffer.items
@@ -30,7 +30,7 @@ returns-clause-talk g c =
     let inv = c.messages.invariant in
     let over = c.in_ok-exchange.ensures.closes (ap Ok c.if-branch.false) in (
       inv.read ++ over.read,
-      told inv.exchanges ++ over.text,
+      told g.H.Handler.refusals inv.exchanges ++ over.text,
       over.over,
       then inv.so_far.0 over.moves,
       record {
@@ -54,7 +54,7 @@ returns-in_err-exchange-clause-broken g c =
     rw p.1 (λ lack.
     let cut = c.in_err-exchange.ensures.on_error.broken (λ is. lack (cc)) in (
       inv.read ++ cut.read,
-      told inv.exchanges ++ cut.written,
+      told g.H.Handler.refusals inv.exchanges ++ cut.written,
       then inv.so_far.0 cut.moves,
       cut.missing,
       record {
@@ -65,7 +65,7 @@ returns-in_err-exchange-clause-broken g c =
         runs = inv.so_far.1;
         last = cut.written ++ cut.missing;
         due = cut.due;
-        writes = append_assoc (told inv.exchanges) cut.written cut.missing;
+        writes = append_assoc (told g.H.Handler.refusals inv.exchanges) cut.written cut.missing;
       },
     ))
 
@@ -77,7 +77,7 @@ returns-in_err-exchange-clause-short g c = λ lack.
     let same = p.2 in
     let cut = c.in_err-exchange.ensures.on_error.short (cc) in (
       inv.read ++ cut.read,
-      told inv.exchanges ++ cut.written,
+      told g.H.Handler.refusals inv.exchanges ++ cut.written,
       then inv.so_far.0 cut.moves,
       record {
         exchanges = inv.exchanges;

@@ -13,7 +13,7 @@ pub record Served (P : List ℕ → List Exchange → Type 0) (Q R : Type 0) : T
 
 abbrev pub invariant-messages : goal.invariant-messages
 invariant-messages g l = Served
-    (λ read es. Moves g.L.Line.gives g.L.Line.takes l.fn.line l.line read (told es)
+    (λ read es. Moves g.L.Line.gives g.L.Line.takes l.fn.line l.line read (told g.H.Handler.refusals es)
     × Runs g.H.Handler.answers l.fn.handler es l.handler
     × Asks read es l.buffer.items)
     (g.L.Line.failed l.line ≡ g.L.Line.failed l.fn.line)

@@ -20,9 +20,9 @@ returns-in_err-read_head-clause-on_error g c =
 pub returns-in_err-refuse-in-Refuse-clause-on_error : goal.returns-in_err-refuse-in-Refuse-clause-on_error
 returns-in_err-refuse-in-Refuse-clause-on_error g c =
     let e = c.in_ok-read_head.ensures.on_success in
-    let begin : RefusesHead c.read_head.new.buffer.items (refusal_text c.in-Refuse.bodiless
-    c.in-Refuse.status) = rw c.in-Refuse.is at e.3 in
-    let f = c.in_err-refuse-in-Refuse.ensures.on_error in
+    let begin : RefusesHead c.read_head.new.buffer.items c.in-Refuse.bodiless
+    c.in-Refuse.status = rw c.in-Refuse.is at e.3 in
+    let f = rw c.refusals-in-Refuse.ensures at c.in_err-refuse-in-Refuse.ensures.on_error in
     let p = err_from_is_err_and c.from_residual-in_err-refuse-in-Refuse.result
     c.from_residual-in_err-refuse-in-Refuse.ensures.1 in
     let same = p.2 in
@@ -32,7 +32,7 @@ returns-in_err-refuse-in-Refuse-clause-on_error g c =
         written = f.0;
         moves = then_to e.1 f.3 (append-nil _) refl;
         missing = f.1;
-        due = rw (← e.2, ← f.2) (refusing _ (at_head _ begin) refl);
+        due = rw (← e.2, ← f.2) (refusing _ (at_head _ _ begin) refl);
       };
       short = λ lack. record {
         read = e.0;
@@ -46,7 +46,7 @@ pub returns-in_err-refuse-in-TooMany-clause-on_error : goal.returns-in_err-refus
 returns-in_err-refuse-in-TooMany-clause-on_error g c =
     let e = c.in_ok-read_head.ensures.on_success in
     let begin : IsHeadProgress c.read_head.new.buffer.items TooMany = rw c.in-TooMany.is at e.3 in
-    let f = c.in_err-refuse-in-TooMany.ensures.on_error in
+    let f = rw c.refusals.ensures at c.in_err-refuse-in-TooMany.ensures.on_error in
     let p = err_from_is_err_and c.from_residual-in_err-refuse-in-TooMany.result
     c.from_residual-in_err-refuse-in-TooMany.ensures.1 in
     let same = p.2 in
@@ -72,9 +72,9 @@ returns-in_ok-refuse-in-TooMany-clause-closes g c = λ _.
     let begin : IsHeadProgress c.read_head.new.buffer.items TooMany = rw c.in-TooMany.is at e.3 in
     record {
       read = e.0;
-      text = refusal_text false 431;
+      text = refusal_text g.H.Handler.refusals false 431;
       over = true;
-      moves = then_to e.1 c.in_ok-refuse-in-TooMany.ensures.on_success (append-nil _) refl;
+      moves = then_to e.1 (rw c.refusals.ensures at c.in_ok-refuse-in-TooMany.ensures.on_success) (append-nil _) refl;
       ends = rw (← e.2) (refuses _ (many_lines begin.0 begin.1 begin.2) refl);
       end = λ f. cc;
     }
@@ -96,14 +96,14 @@ returns-in-More-clause-closes g c = λ _.
 pub returns-in_ok-refuse-in-Refuse-clause-closes : goal.returns-in_ok-refuse-in-Refuse-clause-closes
 returns-in_ok-refuse-in-Refuse-clause-closes g c = λ _.
     let e = c.in_ok-read_head.ensures.on_success in
-    let begin : RefusesHead c.read_head.new.buffer.items (refusal_text c.in-Refuse.bodiless
-    c.in-Refuse.status) = rw c.in-Refuse.is at e.3 in
+    let begin : RefusesHead c.read_head.new.buffer.items c.in-Refuse.bodiless
+    c.in-Refuse.status = rw c.in-Refuse.is at e.3 in
     record {
       read = e.0;
-      text = refusal_text c.in-Refuse.bodiless c.in-Refuse.status;
+      text = refusal_text g.H.Handler.refusals c.in-Refuse.bodiless c.in-Refuse.status;
       over = true;
-      moves = then_to e.1 c.in_ok-refuse-in-Refuse.ensures.on_success (append-nil _) refl;
-      ends = rw (← e.2) (refuses _ (at_head _ begin) refl);
+      moves = then_to e.1 (rw c.refusals-in-Refuse.ensures at c.in_ok-refuse-in-Refuse.ensures.on_success) (append-nil _) refl;
+      ends = rw (← e.2) (refuses _ (at_head _ _ begin) refl);
       end = λ f. cc;
     }
 

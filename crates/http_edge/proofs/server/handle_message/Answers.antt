@@ -19,7 +19,7 @@ returns-in_err-write_reply-clause-on_error g c =
         answered = subst (λ r. g.H.Handler.answers c.args.handler.now r (response_of c.reply_to-reply.result)
             c.reply_to-reply.new.handler) (ap (λ r. with_body r m.body) c.message_of.ensures ∙ request_is is)
             (c.reply_to-reply.ensures m.body (ap (λ r. r.body) c.message_of.ensures ∙ is.keeps));
-        text = rw (is.says.bodiless, is.says.closes) at e.2;
+        text = rw (is.says.bodiless, is.says.closes, c.refusals.ensures) at e.2;
       },
     ))
 
@@ -29,7 +29,7 @@ returns-in_err-write_reply-clause-short g c = λ lack m is.
     let told = p.1 in
     let same = p.2 in (
       c.in_err-write_reply.ensures.quiet (cc),
-      reply_text (is_bodiless m.head) (closes m.head) (response_of c.reply_to-reply.result),
+      reply_text g.H.Handler.refusals (is_bodiless m.head) (closes m.head) (response_of c.reply_to-reply.result),
       record {
         reply = response_of c.reply_to-reply.result;
         answered = subst (λ r. g.H.Handler.answers c.args.handler.now r (response_of c.reply_to-reply.result)

@@ -57,7 +57,7 @@ returns-in_err-refuse-in-TooLong-clause-on_error g c =
     let r : (frame_by c.args.head.kind ≡ chunked) × IsTooLong chunked (drop c.args.head.len c.args.buffer.now.items
     ++ e.0) = rw c.in-TooLong.is at e.2 in
     let bad = long_chunks c.requires.0 _ (has_head_more e.0 is.has) (is.framing ∙ ap Some r.0) r.1 in
-    let f = c.in_err-refuse-in-TooLong.ensures.on_error in
+    let f = rw c.refusals.ensures at c.in_err-refuse-in-TooLong.ensures.on_error in
     let p = err_from_is_err_and c.from_residual-in_err-refuse-in-TooLong.result
     c.from_residual-in_err-refuse-in-TooLong.ensures.1 in
     let same = p.2 in
@@ -67,8 +67,8 @@ returns-in_err-refuse-in-TooLong-clause-on_error g c =
         written = interim_text c.requires.0 ++ f.0;
         moves = all_moves c.args.head.expects c.requires.0 is.says.expects c.in_ok-interim.ensures.on_success e.1 f.3;
         missing = f.1;
-        due = subst (Due g.H.Handler.answers c.args.handler.now (c.args.buffer.now.items ++ e.0) c.args.handler.now)
-            (cut_text (interim_text c.requires.0) f.0 f.1 (ap (λ (b : Bool). refusal_text b 413) (sym is.says.bodiless)
+        due = subst (Due g.H.Handler.refusals g.H.Handler.answers c.args.handler.now (c.args.buffer.now.items ++ e.0) c.args.handler.now)
+            (cut_text (interim_text c.requires.0) f.0 f.1 (ap (λ (b : Bool). refusal_text g.H.Handler.refusals b 413) (sym is.says.bodiless)
             ∙ f.2)) (refusing _ bad refl);
       };
       short = λ lack. record {
@@ -87,7 +87,7 @@ returns-in_err-refuse-in-Bad-clause-on_error g c =
     let r : (frame_by c.args.head.kind ≡ chunked) × IsBroken (drop c.args.head.len c.args.buffer.now.items
     ++ e.0) = rw c.in-Bad.is at e.2 in
     let bad = bad_chunks c.requires.0 _ (has_head_more e.0 is.has) (is.framing ∙ ap Some r.0) r.1 in
-    let f = c.in_err-refuse-in-Bad.ensures.on_error in
+    let f = rw c.refusals-in-Bad.ensures at c.in_err-refuse-in-Bad.ensures.on_error in
     let p = err_from_is_err_and c.from_residual-in_err-refuse-in-Bad.result
     c.from_residual-in_err-refuse-in-Bad.ensures.1 in
     let same = p.2 in
@@ -97,8 +97,8 @@ returns-in_err-refuse-in-Bad-clause-on_error g c =
         written = interim_text c.requires.0 ++ f.0;
         moves = all_moves c.args.head.expects c.requires.0 is.says.expects c.in_ok-interim.ensures.on_success e.1 f.3;
         missing = f.1;
-        due = subst (Due g.H.Handler.answers c.args.handler.now (c.args.buffer.now.items ++ e.0) c.args.handler.now)
-            (cut_text (interim_text c.requires.0) f.0 f.1 (ap (λ (b : Bool). refusal_text b 400) (sym is.says.bodiless)
+        due = subst (Due g.H.Handler.refusals g.H.Handler.answers c.args.handler.now (c.args.buffer.now.items ++ e.0) c.args.handler.now)
+            (cut_text (interim_text c.requires.0) f.0 f.1 (ap (λ (b : Bool). refusal_text g.H.Handler.refusals b 400) (sym is.says.bodiless)
             ∙ f.2)) (refusing _ bad refl);
       };
       short = λ lack. record {
@@ -173,12 +173,12 @@ returns-in_ok-refuse-in-TooLong-clause-closes g c =
     let bad = long_chunks h _ (has_head_more e.0 is.has) (is.framing ∙ ap Some r.0) r.1 in
     λ _. record {
       read = e.0;
-      text = interim_text h ++ refusal_text c.args.head.bodiless 413;
+      text = interim_text h ++ refusal_text g.H.Handler.refusals c.args.head.bodiless 413;
       over = true;
       moves = all_moves c.args.head.expects h is.says.expects c.in_ok-interim.ensures.on_success e.1
-          c.in_ok-refuse-in-TooLong.ensures.on_success;
-      ends = subst (λ (b : Bool). Ends g.H.Handler.answers c.args.handler.now (c.args.buffer.now.items
-          ++ e.0) c.args.handler.now (interim_text h ++ refusal_text b 413) true) (sym is.says.bodiless) (refuses _ bad
+          (rw c.refusals.ensures at c.in_ok-refuse-in-TooLong.ensures.on_success);
+      ends = subst (λ (b : Bool). Ends g.H.Handler.refusals g.H.Handler.answers c.args.handler.now (c.args.buffer.now.items
+          ++ e.0) c.args.handler.now (interim_text h ++ refusal_text g.H.Handler.refusals b 413) true) (sym is.says.bodiless) (refuses _ bad
           refl);
       end = λ f. cc;
     }
@@ -193,12 +193,12 @@ returns-in_ok-refuse-in-Bad-clause-closes g c =
     let bad = bad_chunks h _ (has_head_more e.0 is.has) (is.framing ∙ ap Some r.0) r.1 in
     λ _. record {
       read = e.0;
-      text = interim_text h ++ refusal_text c.args.head.bodiless 400;
+      text = interim_text h ++ refusal_text g.H.Handler.refusals c.args.head.bodiless 400;
       over = true;
       moves = all_moves c.args.head.expects h is.says.expects c.in_ok-interim.ensures.on_success e.1
-          c.in_ok-refuse-in-Bad.ensures.on_success;
-      ends = subst (λ (b : Bool). Ends g.H.Handler.answers c.args.handler.now (c.args.buffer.now.items
-          ++ e.0) c.args.handler.now (interim_text h ++ refusal_text b 400) true) (sym is.says.bodiless) (refuses _ bad
+          (rw c.refusals-in-Bad.ensures at c.in_ok-refuse-in-Bad.ensures.on_success);
+      ends = subst (λ (b : Bool). Ends g.H.Handler.refusals g.H.Handler.answers c.args.handler.now (c.args.buffer.now.items
+          ++ e.0) c.args.handler.now (interim_text h ++ refusal_text g.H.Handler.refusals b 400) true) (sym is.says.bodiless) (refuses _ bad
           refl);
       end = λ f. cc;
     }
@@ -240,7 +240,7 @@ returns-in_ok-goes-in-Whole-clause-closes g c = λ eq.
     let went : c.in_ok-goes-in-Whole.goes ≡ false = cc in
     record {
       read = e.0;
-      text = exchange_text (record { message = message_with h r.0; reply = a.2.reply });
+      text = exchange_text g.H.Handler.refusals (record { message = message_with h r.0; reply = a.2.reply });
       over = true;
       moves = rw (
         reply_whole g.H.Handler.answers a.2,

@@ -1,7 +1,6 @@
 use Rattle.std.proofs.Common.{ap, length, refl, subst}
 use Rattle.trace_service.specs.Post.{IsHandled}
-use Rattle.trace_service.specs.Work.{TakesAnswer, RefusesAnswer}
-use Rattle.trace_service.proofs.Jobs.{turner_did, sender_did, nothing_done, only_looked}
+use Rattle.trace_service.proofs.Jobs.{turner_did, nothing_done, only_looked}
 use Rattle.trace_service.proofs.Received.{receiver_did}
 use Rattle.trace_service.proofs.workers.work.Goals as goal
 
@@ -15,14 +14,6 @@ returns-in-Turner g c =
     let ran = c.run_turner-held in
     turner_did g.J.Naming.first (length g.J.Naming.slots) g.J.Naming.lane g.J.Naming.fresh c.args.worker.now.context ran.new.source c.args.worker.now.seat ran.new.seat _ _ _
     (λ w. w.caller) (λ w. w.shard) _ _ c.requires.fresh c.requires.new ran.ensures.same.1 ran.ensures.work.1 (λ s t next is. is)
-
-pub returns-in-Sender : goal.returns-in-Sender
-returns-in-Sender g c =
-    let ran = c.run_sender in
-    sender_did g.J.Naming.first (length g.J.Naming.slots) g.J.Naming.lane g.J.Naming.fresh c.args.worker.now.context ran.new.sink c.args.worker.now.seat ran.new.seat _ _ _ _
-    (λ w. w.caller) _ _ _ _ c.requires.fresh c.requires.new ran.ensures.same.1 ran.ensures.work.1
-    (λ s given next is. subst (λ n. TakesAnswer s.caller next.caller n given) (ap length s.hub_is) is)
-    (λ s given next is. subst (λ n. RefusesAnswer s.caller next.caller n given) (ap length s.hub_is) is)
 
 pub returns-in-Receiver : goal.returns-in-Receiver
 returns-in-Receiver g c =

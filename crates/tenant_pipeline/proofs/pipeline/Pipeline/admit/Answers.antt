@@ -12,7 +12,7 @@ use Rattle.tenant_rules.specs.State.{State}
 use Rattle.tenant_rules.specs.Timers.{grouped, recount}
 use Rattle.tenant_pipeline.specs.declared.journal.Journal.{Journal}
 use Rattle.tenant_pipeline.specs.declared.pipeline.Pipeline.{Pipeline}
-use Rattle.tenant_pipeline.specs.StateIn.{part_in, state_of}
+use Rattle.tenant_pipeline.specs.StateIn.{part_in, written_state_of}
 use Rattle.tenant_pipeline.specs.Posts.{arrival_at, Came, IsSameTenant, IsWritten}
 use Rattle.tenant_pipeline.proofs.Holds.{recounted}
 use Rattle.tenant_pipeline.proofs.Late.{lost_came}
@@ -24,7 +24,7 @@ pub returns-in-Waits-clause-came : goal.returns-in-Waits-clause-came
 returns-in-Waits-clause-came c =
     let own = c.args.self.now in
     let p = part own.tenant c.args.stores.now in
-    let s = state_of own p in
+    let s = written_state_of own p in
     let m = c.args.moment in
     let x = arrival_at p c.args.keys.now.keys c.args.span.now.text in
     let journal = c.args.journal.now in
@@ -48,7 +48,7 @@ pub returns-in-Decided-true-clause-came : goal.returns-in-Decided-true-clause-ca
 returns-in-Decided-true-clause-came c =
     let own = c.args.self.now in
     let p = part own.tenant c.args.stores.now in
-    let s = state_of own p in
+    let s = written_state_of own p in
     let m = c.args.moment in
     let x = arrival_at p c.args.keys.now.keys c.args.span.now.text in
     let journal = c.args.journal.now in
@@ -75,7 +75,7 @@ pub returns-in-Decided-false-clause-came : goal.returns-in-Decided-false-clause-
 returns-in-Decided-false-clause-came c =
     let own = c.args.self.now in
     let p = part own.tenant c.args.stores.now in
-    let s = state_of own p in
+    let s = written_state_of own p in
     let m = c.args.moment in
     let x = arrival_at p c.args.keys.now.keys c.args.span.now.text in
     let journal = c.args.journal.now in
@@ -115,7 +115,7 @@ pub returns-in-Cached-clause-came : goal.returns-in-Cached-clause-came
 returns-in-Cached-clause-came c =
     let own = c.args.self.now in
     let p = part own.tenant c.args.stores.now in
-    let s = state_of own p in
+    let s = written_state_of own p in
     let m = c.args.moment in
     let x = arrival_at p c.args.keys.now.keys c.args.span.now.text in
     let journal = c.args.journal.now in
@@ -143,7 +143,7 @@ pub returns-in-Nowhere-clause-came : goal.returns-in-Nowhere-clause-came
 returns-in-Nowhere-clause-came c =
     let own = c.args.self.now in
     let p = part own.tenant c.args.stores.now in
-    let s = state_of own p in
+    let s = written_state_of own p in
     let m = c.args.moment in
     let x = arrival_at p c.args.keys.now.keys c.args.span.now.text in
     let journal = c.args.journal.now in

@@ -3,7 +3,7 @@ use Rattle.tenant_rules.specs.Answers.{reply_of}
 use Rattle.tenant_rules.specs.Intake.{Verdict}
 use Rattle.tenant_stores.specs.Part.{part}
 use Rattle.tenant_pipeline.specs.declared.pipeline.Pipeline.{Pipeline}
-use Rattle.tenant_pipeline.specs.StateIn.{part_in, state_in, state_of}
+use Rattle.tenant_pipeline.specs.StateIn.{part_in, written_state_in, written_state_of}
 use Rattle.otlp_prepare.specs.Arrivals.{arrivals_in}
 use Rattle.tenant_pipeline.specs.Posts.{held_keys, IsPosting, IsTaken, IsWrittenWith}
 use Rattle.tenant_pipeline.proofs.Holds.{written_on}
@@ -108,7 +108,7 @@ returns-clause-on_success c =
     let own0 = c.args.self.now in
     let xs = arrivals_in c.args.origins.now c.args.spans.now in
     let last = end c in
-    subst (λ (t : ℕ). IsTaken xs c.args.invalid c.args.moment (state_in own0 c.args.stores.now) (state_of c.reply.new.self (part t c.loop-span.stores))) (sym last.posted_is.same.tenant) last.taken_is
+    subst (λ (t : ℕ). IsTaken xs c.args.invalid c.args.moment (written_state_in own0 c.args.stores.now) (written_state_of c.reply.new.self (part t c.loop-span.stores))) (sym last.posted_is.same.tenant) last.taken_is
 
 pub returns-clause-reply : goal.returns-clause-reply
 returns-clause-reply c =

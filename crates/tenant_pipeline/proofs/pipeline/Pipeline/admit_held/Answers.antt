@@ -13,7 +13,7 @@ use Rattle.tenant_rules.specs.State.{State}
 use Rattle.tenant_rules.specs.Timers.{recount}
 use Rattle.tenant_pipeline.specs.declared.pipeline.Pipeline.{Pipeline}
 use Rattle.tenant_pipeline.specs.Posts.{CameNext, CameUnsampled, IsSameTenant, IsWrittenWith}
-use Rattle.tenant_pipeline.specs.StateIn.{part_in, state_of}
+use Rattle.tenant_pipeline.specs.StateIn.{part_in, written_state_of}
 use Rattle.tenant_pipeline.proofs.Holds.{no_room, recounted, unkept, written_on}
 use Rattle.tenant_pipeline.proofs.Late.{lost_came}
 use Rattle.tenant_pipeline.proofs.Placing.{came_by}
@@ -56,7 +56,7 @@ pub returns-in-Decided-false-clause-came : goal.returns-in-Decided-false-clause-
 returns-in-Decided-false-clause-came c =
     let own = c.args.self.now in
     let p = part_in own c.args.stores.now in
-    let s = state_of own p in
+    let s = written_state_of own p in
     let m = c.args.moment in
     let x = arrival_in c.args.origins.now c.args.span.now in
     let journal = c.args.journal.now in
@@ -100,7 +100,7 @@ returns-in-Cached-false-clause-came c =
     let own = c.args.self.now in
     let new = c.hit_unsampled.new.self in
     let p = part_in own c.args.stores.now in
-    let s = state_of own p in
+    let s = written_state_of own p in
     let m = c.args.moment in
     let x = arrival_in c.args.origins.now c.args.span.now in
     let journal = c.args.journal.now in

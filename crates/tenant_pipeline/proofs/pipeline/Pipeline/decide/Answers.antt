@@ -17,8 +17,8 @@ use Rattle.tenant_stores.specs.View.{WaitingRow, view}
 use Rattle.tenant_stores.proofs.Lists.{count-append}
 use Rattle.tenant_rules.specs.Timers.{decide, first_due}
 use Rattle.tenant_pipeline.specs.declared.pipeline.Pipeline.{Pipeline}
-use Rattle.tenant_pipeline.specs.StateIn.{counts_in, part_in, policies_of, state_in, state_of, view_in, waiting_of}
-use Rattle.tenant_pipeline.specs.Invariant.{PipelineInvariantBy}
+use Rattle.tenant_pipeline.specs.StateIn.{counts_in, part_in, policies_of, written_state_in, written_state_of, view_in, waiting_of}
+use Rattle.tenant_pipeline.specs.Invariant.{WrittenInvariantBy}
 use Rattle.tenant_pipeline.specs.Outbox.{arrivals_at, AreThere, Groups}
 use Rattle.tenant_pipeline.proofs.Deciding.{drop_all, keep_all}
 use Rattle.tenant_pipeline.proofs.Firsts.{first_row}
@@ -121,9 +121,9 @@ returns-in-Ok-clause-on_success c =
     let new : Pipeline = record mid { rows = record mid.rows { decided = own.rows.decided + 1 }; clock = row.due; caches = caches } in
     let is : c.pass.new.self ≡ new = c.pass.ensures in
     let tenant : mid.tenant ≡ own.tenant = ap (λ (x : Pipeline). x.tenant) groups.same in
-    let s = state_in own c.args.stores.now in
-    subst (λ (x : Pipeline). state_in x c.flush.new.self ≡ decide s.waiting s) (sym is)
-    (subst (λ (t : ℕ). state_of new (part t c.flush.new.self) ≡ decide s.waiting s) (sym tenant) ran.state)
+    let s = written_state_in own c.args.stores.now in
+    subst (λ (x : Pipeline). written_state_in x c.flush.new.self ≡ decide s.waiting s) (sym is)
+    (subst (λ (t : ℕ). written_state_of new (part t c.flush.new.self) ≡ decide s.waiting s) (sym tenant) ran.state)
 
 pub returns-in-Ok-clause-invariant : goal.returns-in-Ok-clause-invariant
 returns-in-Ok-clause-invariant c =
@@ -160,8 +160,8 @@ returns-in-Ok-clause-invariant c =
     let new : Pipeline = record mid { rows = record mid.rows { decided = own.rows.decided + 1 }; clock = row.due; caches = caches } in
     let is : c.pass.new.self ≡ new = c.pass.ensures in
     let tenant : mid.tenant ≡ own.tenant = ap (λ (x : Pipeline). x.tenant) groups.same in
-    subst (λ (x : Pipeline). PipelineInvariantBy x (part_in x c.flush.new.self)) (sym is)
-    (subst (λ (t : ℕ). PipelineInvariantBy new (part t c.flush.new.self)) (sym tenant) ran.held)
+    subst (λ (x : Pipeline). WrittenInvariantBy x (part_in x c.flush.new.self)) (sym is)
+    (subst (λ (t : ℕ). WrittenInvariantBy new (part t c.flush.new.self)) (sym tenant) ran.held)
 
 pub returns-clause-on_success : goal.returns-clause-on_success
 returns-clause-on_success c =
@@ -181,8 +181,8 @@ returns-clause-on_success c =
     let ran = drop_all own p q c.requires.invariant row f.rest f.waiting f.noted c.requires.first f.fits f.after caches remembers n size verdict sound shows in
     let is : c.pass-2.new.self ≡ record own { rows = record own.rows { decided = own.rows.decided + 1 }; clock = row.due; ledger = moved Undecided NotSampled n own.ledger; caches = caches } =
     c.pass-2.ensures ∙ ap (λ (l : LedgerData). let y : Pipeline = record own { rows = record own.rows { decided = own.rows.decided + 1 }; clock = row.due; ledger = l; caches = caches } in y) c.move_spans.ensures in
-    let s = state_in own c.args.stores.now in
-    subst (λ (x : Pipeline). state_in x c.drop_row-spans.new.self ≡ decide s.waiting s) (sym is) ran.state
+    let s = written_state_in own c.args.stores.now in
+    subst (λ (x : Pipeline). written_state_in x c.drop_row-spans.new.self ≡ decide s.waiting s) (sym is) ran.state
 
 pub returns-clause-invariant : goal.returns-clause-invariant
 returns-clause-invariant c =
@@ -202,7 +202,7 @@ returns-clause-invariant c =
     let ran = drop_all own p q c.requires.invariant row f.rest f.waiting f.noted c.requires.first f.fits f.after caches remembers n size verdict sound shows in
     let is : c.pass-2.new.self ≡ record own { rows = record own.rows { decided = own.rows.decided + 1 }; clock = row.due; ledger = moved Undecided NotSampled n own.ledger; caches = caches } =
     c.pass-2.ensures ∙ ap (λ (l : LedgerData). let y : Pipeline = record own { rows = record own.rows { decided = own.rows.decided + 1 }; clock = row.due; ledger = l; caches = caches } in y) c.move_spans.ensures in
-    subst (λ (x : Pipeline). PipelineInvariantBy x (part_in x c.drop_row-spans.new.self)) (sym is) ran.held
+    subst (λ (x : Pipeline). WrittenInvariantBy x (part_in x c.drop_row-spans.new.self)) (sym is) ran.held
 
 pub move_spans-requires : goal.move_spans-requires
 move_spans-requires c =
@@ -270,13 +270,13 @@ pub returns-in-Err-clause-on_refusal : goal.returns-in-Err-clause-on_refusal
 returns-in-Err-clause-on_refusal c =
     let back = c.in_ok-group.ensures.back c.args.self.now c.of-undo.ensures.back in
     let same = back_to c.args.self.now c.group.new.self c.take_back.new.self c.group.new.undo c.put.new.self c.in-Err.ensures.on_refusal back c.take_back.ensures in
-    ap (λ (x : Pipeline). state_in x c.args.stores.now) same
+    ap (λ (x : Pipeline). written_state_in x c.args.stores.now) same
 
 pub returns-in-Err-clause-invariant : goal.returns-in-Err-clause-invariant
 returns-in-Err-clause-invariant c =
     let back = c.in_ok-group.ensures.back c.args.self.now c.of-undo.ensures.back in
     let same = back_to c.args.self.now c.group.new.self c.take_back.new.self c.group.new.undo c.put.new.self c.in-Err.ensures.on_refusal back c.take_back.ensures in
-    subst (λ (x : Pipeline). PipelineInvariantBy x (part_in x c.args.stores.now)) (sym same) c.requires.invariant
+    subst (λ (x : Pipeline). WrittenInvariantBy x (part_in x c.args.stores.now)) (sym same) c.requires.invariant
 
 pub returns-in-Err-clause-tenant : goal.returns-in-Err-clause-tenant
 returns-in-Err-clause-tenant c =
@@ -304,8 +304,8 @@ returns-in-Err-clause-clock c = λ moment le all.
 
 pub returns-in_err-put-clause-on_refusal : goal.returns-in_err-put-clause-on_refusal
 returns-in_err-put-clause-on_refusal c =
-    on_err c.from_residual-in_err-put.result (ap (λ (k : CachesData). let x : Pipeline = record (c.args.self.now) { caches = k } in state_in x c.args.stores.now) c.in_err-put.ensures.on_refusal)
+    on_err c.from_residual-in_err-put.result (ap (λ (k : CachesData). let x : Pipeline = record (c.args.self.now) { caches = k } in written_state_in x c.args.stores.now) c.in_err-put.ensures.on_refusal)
 
 pub returns-in_err-put-clause-invariant : goal.returns-in_err-put-clause-invariant
 returns-in_err-put-clause-invariant c =
-    subst (λ (k : CachesData). let x : Pipeline = record (c.args.self.now) { caches = k } in PipelineInvariantBy x (part_in x c.args.stores.now)) (sym c.in_err-put.ensures.on_refusal) c.requires.invariant
+    subst (λ (k : CachesData). let x : Pipeline = record (c.args.self.now) { caches = k } in WrittenInvariantBy x (part_in x c.args.stores.now)) (sym c.in_err-put.ensures.on_refusal) c.requires.invariant

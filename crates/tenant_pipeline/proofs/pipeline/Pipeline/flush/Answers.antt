@@ -8,8 +8,8 @@ use Rattle.tenant_stores.specs.Part.{part}
 use Rattle.tenant_rules.specs.Batching.{as_sent}
 use Rattle.tenant_rules.specs.Timers.{flushed}
 use Rattle.tenant_pipeline.specs.declared.pipeline.Pipeline.{Pipeline}
-use Rattle.tenant_pipeline.specs.StateIn.{counts_in, state_in, state_of}
-use Rattle.tenant_pipeline.specs.Invariant.{PipelineInvariantBy}
+use Rattle.tenant_pipeline.specs.StateIn.{counts_in, written_state_in, written_state_of}
+use Rattle.tenant_pipeline.specs.Invariant.{WrittenInvariantBy}
 use Rattle.tenant_pipeline.specs.Outbox.{arrivals_at}
 use Rattle.tenant_pipeline.proofs.Deciding.{flush_all}
 use Rattle.tenant_pipeline.proofs.Sweeping.{swept_same, swept_back}
@@ -35,8 +35,8 @@ returns-clause-on_success c =
     let shows = c.flush.ensures.shows (counts_in own) own.batcher.spans [] [] [] all c.requires.invariant.sound (λ key. omega arith) in
     let ran = flush_all own p q c.requires.invariant mid due (batch_view c.in_ok-batch.batch) c.fire-fired.new.self due_is c.requires.first (c.requires.fits due due_is) batch c.in_ok-offer.ensures.on_success c.fire-fired.ensures.pending sound shows in
     let new : Pipeline = record mid { batcher = c.fire-fired.new.self; clock = due } in
-    let s = state_in own c.args.stores.now in
-    subst (λ (t : ℕ). state_of new (part t c.flush.new.self) ≡ flushed (next_due s.pending) s) (sym tenant) (ran.state ∙ ap (λ (o : Option ℕ). flushed o s) (sym due_is))
+    let s = written_state_in own c.args.stores.now in
+    subst (λ (t : ℕ). written_state_of new (part t c.flush.new.self) ≡ flushed (next_due s.pending) s) (sym tenant) (ran.state ∙ ap (λ (o : Option ℕ). flushed o s) (sym due_is))
 
 pub returns-clause-invariant : goal.returns-clause-invariant
 returns-clause-invariant c =
@@ -58,7 +58,7 @@ returns-clause-invariant c =
     let shows = c.flush.ensures.shows (counts_in own) own.batcher.spans [] [] [] all c.requires.invariant.sound (λ key. omega arith) in
     let ran = flush_all own p q c.requires.invariant mid due (batch_view c.in_ok-batch.batch) c.fire-fired.new.self due_is c.requires.first (c.requires.fits due due_is) batch c.in_ok-offer.ensures.on_success c.fire-fired.ensures.pending sound shows in
     let new : Pipeline = record mid { batcher = c.fire-fired.new.self; clock = due } in
-    subst (λ (t : ℕ). PipelineInvariantBy new (part t c.flush.new.self)) (sym tenant) ran.held
+    subst (λ (t : ℕ). WrittenInvariantBy new (part t c.flush.new.self)) (sym tenant) ran.held
 
 pub returns-clause-others_unchanged : goal.returns-clause-others_unchanged
 returns-clause-others_unchanged c = λ other ne. c.flush.ensures.others_unchanged other ne

@@ -103,7 +103,7 @@ returns-in-Ok-clause-on_success c =
     let kept : mid.batcher ≡ own.batcher = ap (λ (x : Pipeline). x.batcher) c.in-Ok.ensures.on_success.same in
     let is : c.exchange.new.self ≡ added c.args.moment c.args.keys.now own.batcher = c.exchange.ensures.pending ∙ (ap (taken planned) kept ∙ made.pending) in
     subst (λ (b : batcher.State ℕ). let new : Pipeline = record mid { batcher = b } in Groups c.args.moment c.args.keys.now p own new) (sym is)
-    (groups_by own mid p c.args.moment c.args.keys.now sent c.in-Ok.offers c.requires.there sent_are c.in-Ok.ensures.on_success c.in-Ok.ensures.took
+    (groups_by own mid p c.args.moment c.args.keys.now sent c.requires.there sent_are c.in-Ok.ensures.on_success c.in-Ok.ensures.took.settings c.in-Ok.ensures.took.room
     (own_sound own c.requires.rules) c.requires.not_empty c.requires.timer c.requires.pending c.requires.room)
 
 pub note-requires : goal.note-requires
@@ -143,11 +143,8 @@ pub returns-in-Ok-clause-back : goal.returns-in-Ok-clause-back
 returns-in-Ok-clause-back c = λ start back.
     let own = c.args.self.now in
     let mid = c.offer_group.new.self in
-    let p = part_in own c.args.stores.now in
     let made = c.in_ok-planned.ensures in
     let planned : PlannedData ℕ = c.in_ok-planned.field-0.planned in
-    let sent : List BatchData = map batch_view c.in_ok-planned.field-0.sent.items in
-    let sent_are = made.sent ∙ ap (λ (bs : List (Batch ℕ)). all_sent (map (batch_at p) bs)) made.batches in
     let kept : mid.batcher ≡ own.batcher = ap (λ (x : Pipeline). x.batcher) c.in-Ok.ensures.on_success.same in
     let is : c.exchange.new.self ≡ added c.args.moment c.args.keys.now own.batcher = c.exchange.ensures.pending ∙ (ap (taken planned) kept ∙ made.pending) in
     let former = c.exchange.ensures.former in
@@ -156,5 +153,5 @@ returns-in-Ok-clause-back c = λ start back.
     let start_is : (c.exchange.new.planned).start ≡ own.batcher.start = ap (λ (x : PlannedData ℕ). x.start) former ∙ ap (λ (b : batcher.State ℕ). b.start) kept in
     let spans_is : (c.exchange.new.planned).spans ≡ own.batcher.spans = ap (λ (x : PlannedData ℕ). x.spans) former ∙ ap (λ (b : batcher.State ℕ). b.spans) kept in
     subst (λ (b : batcher.State ℕ). let new : Pipeline = record mid { batcher = b } in TakesBack v start new) (sym is)
-    (undo_by own mid p c.args.moment c.args.keys.now sent c.in-Ok.offers c.requires.there sent_are c.in-Ok.ensures.on_success c.in-Ok.ensures.took
+    (undo_by own mid c.args.moment c.args.keys.now c.in-Ok.offers c.in-Ok.ensures.on_success.same c.in-Ok.ensures.took
     c.exchange.new.planned c.args.undo.now v start_is spans_is (ap (λ (u : Undo). u.rows) noted) (ap (λ (u : Undo). u.counters) noted) (ap (λ (u : Undo). u.mark) noted) (ap (λ (u : Undo). u.former) noted) (ap (λ (u : Undo). u.offers) noted) start back)

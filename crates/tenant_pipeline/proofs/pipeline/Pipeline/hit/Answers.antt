@@ -8,7 +8,7 @@ use Rattle.tenant_rules.specs.Machine.{cached_or_opens, counted_in}
 use Rattle.tenant_rules.specs.State.{State}
 use Rattle.tenant_rules.specs.Timers.{grouped}
 use Rattle.tenant_pipeline.specs.declared.pipeline.Pipeline.{Pipeline}
-use Rattle.tenant_pipeline.specs.StateIn.{part_in, state_of}
+use Rattle.tenant_pipeline.specs.StateIn.{part_in, written_state_of}
 use Rattle.tenant_stores.specs.Part.{part}
 use Rattle.tenant_pipeline.specs.Posts.{arrival_at, Came, CameUnsampled, IsWritten}
 use Rattle.tenant_pipeline.proofs.Hits.{came_before, group_hits, hit_written, same_cached}
@@ -36,7 +36,7 @@ returns-then-sampled-clause-came c =
     let x = arrival_at p c.args.keys.now.keys c.args.span.now.text in
     let trace = c.requires.coming.1.trace in
     let caches : CachesData = c.push_hit.new.self in
-    let t : State = counted_in (state_of own p) in
+    let t : State = counted_in (written_state_of own p) in
     on_ok_weaker c.push_hit.result
     (λ (noted : shown caches ≡ noted_in true c.args.span.now.trace (shown mid.caches)).
     let here : shown caches ≡ noted_in true (trace_of x) (shown mid.caches) = noted ∙ ap (λ (i : List ℕ). noted_in true i (shown mid.caches)) trace in

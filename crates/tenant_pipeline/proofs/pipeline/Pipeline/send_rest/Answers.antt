@@ -1,44 +1,50 @@
-use Rattle.std.proofs.Common.{◌≡◌, ◌∙◌, ◌<◌, ℕ, List, length, ap, refl, arith}
-use Rattle.std.proofs.lemmas.List.{length-map}
-use Rattle.send_queue.specs.View.{batch_view}
+use Rattle.std.proofs.Common.{◌≡◌, ◌<◌, ◌∙◌, ◌++◌, ℕ, List, [], ◌∷◌, length, ap, subst, sym, refl, arith, append-nil}
+use Rattle.std.proofs.lemmas.Bool.Decides.{nat_tests}
+use Rattle.std.proofs.lemmas.Result.{on_ok_weaker}
+use Rattle.drop_ledger.specs.Ledger.{LedgerData}
 use Rattle.tenant_stores.specs.Counts.{count}
-use Rattle.tenant_stores.proofs.Lists.{count-append}
 use Rattle.tenant_rules.specs.Batching.{as_sent}
-use Rattle.tenant_rules.specs.Timers.{queued}
-use Rattle.tenant_pipeline.specs.StateIn.{part_in}
-use Rattle.tenant_pipeline.specs.Outbox.{arrivals_at}
-use Rattle.tenant_pipeline.proofs.Spans.{arrival_or, there_is}
-use Rattle.tenant_pipeline.proofs.Draining.{rest_some, rest_undo}
+use Rattle.tenant_pipeline.specs.declared.pipeline.Pipeline.{Pipeline}
+use Rattle.tenant_pipeline.specs.Outbox.{AreThere, arrivals_at}
+use Rattle.tenant_pipeline.specs.StateIn.{written_with}
+use Rattle.tenant_pipeline.specs.Unsent.{AddsAll}
+use Rattle.tenant_pipeline.proofs.Adding.{rest_sends, rest_left}
+use Rattle.tenant_pipeline.proofs.Draining.{rest_none, rest_some}
 use Rattle.tenant_pipeline.proofs.pipeline.Pipeline.send_rest.Goals as goal
 
-pub offer-requires : goal.offer-requires
-offer-requires c =
-    let own = c.args.self.now in
-    let p = part_in own c.args.stores.now in
-    let is : batch_view c.in_ok-batch.batch ≡ as_sent (record { moment = c.args.moment; spans = arrivals_at p own.batcher.spans }) =
-    c.in_ok-batch.ensures ∙ ap (λ (ks : List ℕ). as_sent (record { moment = c.args.moment; spans = arrivals_at p ks })) c.spans-keys.ensures in
-    let many : c.in_ok-batch.batch.spans ≡ length (arrivals_at p own.batcher.spans) = ap (λ b. b.spans) is in
-    let size = ap length (there_is p own.batcher.spans c.requires.there) ∙ length-map own.batcher.spans (arrival_or p) in
-    let pending = c.requires.pending in
-    record { pending = omega (arith, many, size, pending) }
+none_long : (keys : List ℕ) → length keys ≡ 0 → keys ≡ []
+none_long [] none = refl
+none_long (key ∷ keys) none = absurd (omega (arith, none))
 
-pub returns-in-Ok-clause-on_success : goal.returns-in-Ok-clause-on_success
-returns-in-Ok-clause-on_success c =
+pub returns-then-is_empty-clause-on_success : goal.returns-then-is_empty-clause-on_success
+returns-then-is_empty-clause-on_success c = λ p there room.
     let own = c.args.self.now in
-    let p = part_in own c.args.stores.now in
-    let is : batch_view c.in_ok-batch.batch ≡ as_sent (record { moment = c.args.moment; spans = arrivals_at p own.batcher.spans }) =
-    c.in_ok-batch.ensures ∙ ap (λ (ks : List ℕ). as_sent (record { moment = c.args.moment; spans = arrivals_at p ks })) c.spans-keys.ensures in
+    let size : length c.spans-keys.result.now ≡ 0 = grind (arith, nat_tests, c.is_empty.ensures, c.if-is_empty.true) in
+    let none : own.batcher.spans ≡ [] = sym c.spans-keys.ensures ∙ none_long c.spans-keys.result.now size in
+    rest_none (written_with c.args.leaving.now.unsent p own) p c.args.moment none room
+
+pub returns-clause-on_success : goal.returns-clause-on_success
+returns-clause-on_success c =
+    let own = c.args.self.now in
+    let us = c.args.leaving.now.unsent in
+    let us' = c.add.new.self.unsent in
+    let m = c.args.moment in
+    let l' : LedgerData = c.add.new.ledger in
+    let mid : Pipeline = record own { ledger = l' } in
     let keys = ap length c.spans-keys.ensures in
-    let some : 0 < length own.batcher.spans = grind (arith, keys, c.is_empty.ensures, c.if-is_empty.false) in
-    rest_some own c.offer.new.self p c.args.moment c.in-Ok.offers (batch_view c.in_ok-batch.batch) some c.requires.there is c.in-Ok.ensures.on_success c.in-Ok.ensures.took c.requires.room
+    let some : 0 < length own.batcher.spans = grind (arith, nat_tests, keys, c.is_empty.ensures, c.if-is_empty.false) in
+    on_ok_weaker c.add.result (λ (adds : AddsAll (record { moment = m; spans = c.spans-keys.result.now } ∷ []) own.sender c.args.leaving.now c.add.new.self own.ledger l') p there room.
+    let adds' : AddsAll (record { moment = m; spans = own.batcher.spans } ∷ []) own.sender c.args.leaving.now c.add.new.self own.ledger l' =
+    subst (λ (ks : List ℕ). AddsAll (record { moment = m; spans = ks } ∷ []) own.sender c.args.leaving.now c.add.new.self own.ledger l') c.spans-keys.ensures adds in
+    let there' : AreThere p (own.batcher.spans ++ []) = subst (AreThere p) (sym (append-nil own.batcher.spans)) there in
+    rest_some (written_with us p own) (written_with us' p mid) p m (as_sent (record { moment = m; spans = arrivals_at p own.batcher.spans })) some there refl
+    (rest_sends own (record { moment = m; spans = own.batcher.spans }) c.args.leaving.now c.add.new.self l' adds' p there') refl
+    (rest_left own (record { moment = m; spans = own.batcher.spans }) c.args.leaving.now c.add.new.self l' adds' p there') room) c.add.ensures
 
-pub returns-in-Ok-clause-gone : goal.returns-in-Ok-clause-gone
-returns-in-Ok-clause-gone c = λ key.
-    let more = ap (count key) c.in_ok-extend_from_slice.ensures.items in
-    let both = count-append key c.args.undo.now.gone.items c.spans-keys.result.now in
-    let keys = ap (count key) c.spans-keys.ensures in
-    omega (arith, more, both, keys)
-
-pub returns-in-Ok-clause-back : goal.returns-in-Ok-clause-back
-returns-in-Ok-clause-back c = λ start back.
-    rest_undo c.args.undo.now _ c.args.self.now c.offer.new.self c.in-Ok.offers (queued (batch_view c.in_ok-batch.batch)) c.in-Ok.ensures.on_success c.in-Ok.ensures.took refl refl refl refl refl start back
+pub returns-clause-gone : goal.returns-clause-gone
+returns-clause-gone c =
+    on_ok_weaker c.add.result (λ adds key.
+    let keys = ap (count key) (append-nil c.spans-keys.result.now) in
+    let same = ap (count key) c.spans-keys.ensures in
+    let gone = adds.gone key in
+    omega (arith, keys, same, gone)) c.add.ensures

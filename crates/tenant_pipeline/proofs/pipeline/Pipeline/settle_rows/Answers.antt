@@ -3,11 +3,11 @@ use Rattle.tail_policy.specs.declared.note.TraceNote.{TraceNote}
 use Rattle.trace_rows.specs.declared.table.Row.{Row}
 use Rattle.tenant_stores.specs.Counts.{Counts, range, waiting_numbers}
 use Rattle.tenant_stores.specs.Invariant.{StoreInvariant}
-use Rattle.tenant_stores.specs.View.{view}
+use Rattle.tenant_stores.specs.View.{spans_at, view}
 use Rattle.tenant_pipeline.specs.declared.pipeline.Pipeline.{Pipeline}
 use Rattle.tenant_pipeline.specs.StateIn.{counts_in, part_in, policies_of}
-use Rattle.tenant_pipeline.specs.Drains.{keys_if, sampled_keys}
-use Rattle.tenant_pipeline.proofs.Verdicts.{Given, given_none, given_one, view_given, keys_next, keys_end}
+use Rattle.tenant_pipeline.specs.Drains.{keys_if, sampled_keys, spans_left}
+use Rattle.tenant_pipeline.proofs.Verdicts.{Given, given_none, given_one, view_given, keys_next, keys_end, left_first, left_last}
 use Rattle.tenant_pipeline.proofs.pipeline.Pipeline.settle_rows.Goals as goal
 
 pub loop-number-init : goal.loop-number-init
@@ -19,7 +19,7 @@ loop-number-init c =
       from = omega arith;
       by = decided;
       given = given_none (policies_of own) own.rows.decided p.rows;
-      sound = λ pending sound. (pending, refl, sound);
+      sound = λ pending sound. (pending, refl, sound, refl);
       others = λ other ne. refl;
     }
 
@@ -58,7 +58,12 @@ loop-number-preserved c =
           append_assoc kept.0 more rest ∙ (ap (λ (ks : List ℕ). kept.0 ++ ks) (sym (keys_next pol p.rows d own.rows.opened number (omega arith) refl)) ∙ kept.1) in
           let n : Counts = record (counts_in own) { decided = d } in
           let now = c.settle_row.ensures.store_invariant n kept.0 refl (omega arith) kept.2 in
-          (kept.0 ++ more, all, subst (λ (o : Option (Row TraceNote)). StoreInvariant (record (counts_in own) { decided = number }) (kept.0 ++ keys_if pol o) [] (part_in own c.settle_row.new.stores)) same now);
+          let alike = c.settle_row.ensures.alike n kept.0 refl (omega arith) kept.2 in (
+            kept.0 ++ more,
+            all,
+            subst (λ (o : Option (Row TraceNote)). StoreInvariant (record (counts_in own) { decided = number }) (kept.0 ++ keys_if pol o) [] (part_in own c.settle_row.new.stores)) same now,
+            subst (λ (o : Option (Row TraceNote)). spans_left pol (view (record (counts_in own) { decided = number }) (kept.0 ++ keys_if pol o) (part_in own c.settle_row.new.stores)) ≡ spans_left pol (view n kept.0 mid)) same alike ∙ kept.3,
+          );
       others = λ other ne. c.settle_row.ensures.others_unchanged other ne ∙ inv.others other ne;
     }
 
@@ -92,3 +97,18 @@ returns-clause-shows c =
     let to : c.loop-number.number ≡ own.rows.opened = omega (arith, by) in
     let all = subst (λ (k : ℕ). Given pol own.rows.decided k p.rows q.rows) to inv.given in
     ap (λ (k : ℕ). view (record (counts_in own) { decided = k }) [] q) to ∙ view_given pol (counts_in own) p q c.requires.store_invariant.1.order all
+
+pub returns-clause-alike : goal.returns-clause-alike
+returns-clause-alike c = λ pending sound.
+    let own = c.args.self.now in
+    let pol = policies_of own in
+    let p = part_in own c.args.stores.now in
+    let q = part_in own c.loop-number.stores in
+    let d = c.loop-number.number in
+    let n : Counts = record (counts_in own) { decided = d } in
+    let kept = c.loop-number.invariant.sound pending sound in
+    let none = keys_end pol p.rows d own.rows.opened (omega arith) in
+    let all : kept.0 ≡ pending ++ sampled_keys pol p.rows (waiting_numbers (counts_in own)) =
+    sym (append-nil kept.0) ∙ (ap (λ (ks : List ℕ). kept.0 ++ ks) (sym none) ∙ kept.1) in
+    let last : spans_left pol (view n kept.0 q) ≡ spans_at q.spans q.texts kept.0 = left_last pol n kept.0 q (omega arith) in
+    ap (spans_at q.spans q.texts) (sym all) ∙ (sym last ∙ (kept.3 ∙ left_first pol (counts_in own) pending p))

@@ -1,4 +1,3 @@
-use Rattle.std.proofs.Common.{◌∙◌}
 use Rattle.tenant_pipeline.specs.OwnStep.{own_step_of}
 use Rattle.tenant_pipeline.specs.StateIn.{state_in}
 use Rattle.tenant_pipeline.proofs.Acting.{Acted, acted_done, may_leave}
@@ -6,16 +5,15 @@ use Rattle.tenant_pipeline.proofs.Stepping.{Done, answers_of, ranges}
 use Rattle.tenant_pipeline.proofs.pipeline.Pipeline.step.Goals as goal
 
 -- the timers ran, and then the step was taken
-acted : (c : goal.After-self-1) → Acted (own_step_of c.args.step.now) c.effective-moment.result (state_in c.args.self.now c.args.stores.now) c.run_due.new.self c.run_due.new.stores c.take.new.self c.take.new.stores
+acted : (c : goal.After-self-1) → Acted (own_step_of c.args.step.now) c.effective-moment.result (state_in c.args.self.now c.args.stores.now) c.run.new.self c.run.new.stores
 acted c = record {
   at = c.effective-moment.ensures.at;
-  ok = c.in_ok-run_due.ensures.on_success;
   change = c.in_ok-told.ensures.on_success;
   holds = c.in_ok-told.ensures.holds;
 }
 
-done : (c : goal.After-self-1) → Done (own_step_of c.args.step.now) (state_in c.args.self.now c.args.stores.now) c.in_ok-told.told (record c.take.new.self { clock = c.effective-moment.result }) c.take.new.stores
-done c = acted_done (own_step_of c.args.step.now) c.effective-moment.result (state_in c.args.self.now c.args.stores.now) c.in_ok-told.told c.run_due.new.self c.run_due.new.stores c.take.new.self c.take.new.stores (acted c) c.in_ok-told.ensures.told
+done : (c : goal.After-self-1) → Done (own_step_of c.args.step.now) (state_in c.args.self.now c.args.stores.now) c.in_ok-told.told (record c.run.new.self { clock = c.effective-moment.result }) c.run.new.stores
+done c = acted_done (own_step_of c.args.step.now) c.effective-moment.result (state_in c.args.self.now c.args.stores.now) c.in_ok-told.told c.run.new.self c.run.new.stores (acted c) c.in_ok-told.ensures.told
 
 pub returns-clause-on_success : goal.returns-clause-on_success
 returns-clause-on_success c = answers_of (own_step_of c.args.step.now) (state_in c.args.self.now c.args.stores.now) _ c.in_ok-told.told (ranges c.args.self.now c.args.stores.now) (done c).from_state
@@ -26,12 +24,6 @@ returns-clause-from_state c = (done c).from_state
 pub returns-clause-invariant : goal.returns-clause-invariant
 returns-clause-invariant c = (done c).held
 
-pub returns-clause-others_unchanged : goal.returns-clause-others_unchanged
-returns-clause-others_unchanged c = λ other ne. c.in_ok-told.ensures.others_unchanged other (λ e. ne (e ∙ c.in_ok-run_due.ensures.tenant)) ∙ c.in_ok-run_due.ensures.others_unchanged other ne
-
-pub returns-in_err-told-clause-others_unchanged : goal.returns-in_err-told-clause-others_unchanged
-returns-in_err-told-clause-others_unchanged c = λ other ne. c.in_err-told.ensures.others_unchanged other (λ e. ne (e ∙ c.in_ok-run_due.ensures.tenant)) ∙ c.in_ok-run_due.ensures.others_unchanged other ne
-
 pub returns-clause-may_leave : goal.returns-clause-may_leave
 returns-clause-may_leave c = λ now text retires told.
-    may_leave (own_step_of c.args.step.now) c.effective-moment.result now (state_in c.args.self.now c.args.stores.now) c.in_ok-told.told text c.run_due.new.self c.run_due.new.stores c.take.new.self c.take.new.stores (acted c) c.in_ok-told.ensures.told retires told
+    may_leave (own_step_of c.args.step.now) c.effective-moment.result now (state_in c.args.self.now c.args.stores.now) c.in_ok-told.told text c.run.new.self c.run.new.stores (acted c) c.in_ok-told.ensures.told retires told

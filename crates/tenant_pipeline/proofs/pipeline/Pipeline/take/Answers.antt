@@ -1,11 +1,15 @@
-use Rattle.std.proofs.Common.{◌≡◌, ap}
+use Rattle.std.proofs.Common.{◌≡◌, ◌∙◌, [], ap}
 use Rattle.std.proofs.lemmas.Result.{on_ok_weaker}
-use Rattle.send_retry.specs.Class.{answer_view}
+use Rattle.send_retry.specs.Class.{AnswerData, answer_view}
 use Rattle.tenant_rules.specs.Machine.{turned}
+use Rattle.tenant_rules.specs.Own.{Turn, Answer}
 use Rattle.tenant_pipeline.specs.declared.pipeline.Pipeline.{Pipeline}
+use Rattle.tenant_pipeline.specs.Acts.{at}
 use Rattle.tenant_pipeline.specs.Outbox.{Sends}
-use Rattle.tenant_pipeline.specs.StateIn.{policies_of}
-use Rattle.tenant_pipeline.proofs.Stepping.{sent_either, turn_sent, answer_sent}
+use Rattle.tenant_pipeline.specs.StateIn.{part_in, policies_of}
+use Rattle.tenant_pipeline.proofs.Behind.{from_written}
+use Rattle.tenant_pipeline.proofs.Posting.{on_ok}
+use Rattle.tenant_pipeline.proofs.Stepping.{SentOver, seen_same, sent_either, sent_over, turn_sent, answer_sent}
 use Rattle.tenant_pipeline.proofs.Sweeping.{swept_same}
 use Rattle.tenant_pipeline.proofs.pipeline.Pipeline.take.Goals as goal
 
@@ -16,6 +20,13 @@ take_post-requires-clause-policies c =
     let made : c.in-Post.prepared.now.policies ≡ policies_of c.args.self.now = rw c.in-Post.is at c.requires.policies in
     made
 
+pub returns-in_ok-reply-in-Post-clause-on_success : goal.returns-in_ok-reply-in-Post-clause-on_success
+returns-in_ok-reply-in-Post-clause-on_success c =
+    rw c.in-Post.is (ap (at c.args.moment) (seen_same c.args.moment c.take_post.new.self c.take_post.new.stores c.in_ok-reply-in-Post.ensures.holds) ∙ c.in_ok-reply-in-Post.ensures.on_success)
+
+pub returns-in_ok-reply-in-Post-clause-holds : goal.returns-in_ok-reply-in-Post-clause-holds
+returns-in_ok-reply-in-Post-clause-holds c = from_written c.args.moment c.take_post.new.self (part_in c.take_post.new.self c.take_post.new.stores) c.in_ok-reply-in-Post.ensures.holds
+
 -- ---- a worker asks for a job
 
 pub returns-in-Turn-clause-on_success : goal.returns-in-Turn-clause-on_success
@@ -23,7 +34,9 @@ returns-in-Turn-clause-on_success c =
     let m = c.args.moment in
     let own = c.args.self.now in
     let sent = c.hand_out.new.self in
-    rw c.in-Turn.is (on_ok_weaker c.hand_out.result (λ (sends : Sends (turned m) own sent). (turn_sent 0 m own sent c.args.stores.now c.requires.holds c.requires.quiet sends).change) c.hand_out.ensures.on_success)
+    let stores = c.args.stores.now in
+    let over : Sends (turned m) own sent → SentOver (Turn 0) m own sent stores = λ sends. sent_over (Turn 0) m own sent stores (ap (λ (o : Pipeline). o.tenant) sends.same) (turn_sent 0 m [] own sent (part_in own stores) c.requires.holds c.requires.quiet sends) in
+    rw c.in-Turn.is (on_ok_weaker c.hand_out.result (λ (sends : Sends (turned m) own sent). (over sends).change) c.hand_out.ensures.on_success)
 
 pub returns-in-Turn-clause-told : goal.returns-in-Turn-clause-told
 returns-in-Turn-clause-told c = rw c.in-Turn.is c.hand_out.ensures.step_reply
@@ -33,7 +46,9 @@ returns-in-Turn-clause-holds c =
     let m = c.args.moment in
     let own = c.args.self.now in
     let sent = c.hand_out.new.self in
-    on_ok_weaker c.hand_out.result (λ (sends : Sends (turned m) own sent). (turn_sent 0 m own sent c.args.stores.now c.requires.holds c.requires.quiet sends).holds) c.hand_out.ensures.on_success
+    let stores = c.args.stores.now in
+    let over : Sends (turned m) own sent → SentOver (Turn 0) m own sent stores = λ sends. sent_over (Turn 0) m own sent stores (ap (λ (o : Pipeline). o.tenant) sends.same) (turn_sent 0 m [] own sent (part_in own stores) c.requires.holds c.requires.quiet sends) in
+    on_ok_weaker c.hand_out.result (λ (sends : Sends (turned m) own sent). (over sends).holds) c.hand_out.ensures.on_success
 
 pub returns-in-Turn-clause-swept : goal.returns-in-Turn-clause-swept
 returns-in-Turn-clause-swept c = λ is.
@@ -54,14 +69,32 @@ returns-in-Turn-clause-section c =
 
 pub returns-in-Answer-clause-on_success : goal.returns-in-Answer-clause-on_success
 returns-in-Answer-clause-on_success c =
-    rw c.in-Answer.is (answer_sent 0 c.in-Answer.ticket c.in-Answer.word c.args.moment (answer_view c.in-Answer.answer.now) c.args.self.now c.settle.new.self c.args.stores.now c.requires.holds c.requires.quiet c.settle.ensures.sends).change
+    let m = c.args.moment in
+    let own = c.args.self.now in
+    let sent = c.settle.new.self in
+    let stores = c.args.stores.now in
+    let ticket = c.in-Answer.ticket in
+    let word = c.in-Answer.word in
+    let given : AnswerData = answer_view c.in-Answer.answer.now in
+    let over : SentOver (Answer 0 ticket word given) m own sent stores =
+    sent_over (Answer 0 ticket word given) m own sent stores (ap (λ (o : Pipeline). o.tenant) c.settle.ensures.sends.same) (answer_sent 0 m [] own sent (part_in own stores) c.requires.holds c.requires.quiet ticket word given c.settle.ensures.sends) in
+    rw c.in-Answer.is over.change
 
 pub returns-in-Answer-clause-told : goal.returns-in-Answer-clause-told
 returns-in-Answer-clause-told c = rw c.in-Answer.is c.settle.ensures.step_reply
 
 pub returns-in-Answer-clause-holds : goal.returns-in-Answer-clause-holds
 returns-in-Answer-clause-holds c =
-    (answer_sent 0 c.in-Answer.ticket c.in-Answer.word c.args.moment (answer_view c.in-Answer.answer.now) c.args.self.now c.settle.new.self c.args.stores.now c.requires.holds c.requires.quiet c.settle.ensures.sends).holds
+    let m = c.args.moment in
+    let own = c.args.self.now in
+    let sent = c.settle.new.self in
+    let stores = c.args.stores.now in
+    let ticket = c.in-Answer.ticket in
+    let word = c.in-Answer.word in
+    let given : AnswerData = answer_view c.in-Answer.answer.now in
+    let over : SentOver (Answer 0 ticket word given) m own sent stores =
+    sent_over (Answer 0 ticket word given) m own sent stores (ap (λ (o : Pipeline). o.tenant) c.settle.ensures.sends.same) (answer_sent 0 m [] own sent (part_in own stores) c.requires.holds c.requires.quiet ticket word given c.settle.ensures.sends) in
+    over.holds
 
 pub returns-in-Answer-clause-swept : goal.returns-in-Answer-clause-swept
 returns-in-Answer-clause-swept c = λ is.
@@ -70,8 +103,20 @@ returns-in-Answer-clause-swept c = λ is.
 
 -- ---- the others
 
+pub returns-in-Report-clause-on_success : goal.returns-in-Report-clause-on_success
+returns-in-Report-clause-on_success c = rw c.in-Report.is (on_ok c.report_told.result (ap (at c.args.moment) (seen_same c.args.moment c.args.self.now c.args.stores.now c.requires.holds)))
+
+pub returns-in-Report-clause-holds : goal.returns-in-Report-clause-holds
+returns-in-Report-clause-holds c = on_ok c.report_told.result (from_written c.args.moment c.args.self.now (part_in c.args.self.now c.args.stores.now) c.requires.holds)
+
 pub returns-in-Report-clause-told : goal.returns-in-Report-clause-told
 returns-in-Report-clause-told c = rw c.in-Report.is c.report_told.ensures
+
+pub returns-in-Retire-clause-on_success : goal.returns-in-Retire-clause-on_success
+returns-in-Retire-clause-on_success c = rw c.in-Retire.is (on_ok c.retire_told.result (ap (at c.args.moment) (seen_same c.args.moment c.args.self.now c.args.stores.now c.requires.holds)))
+
+pub returns-in-Retire-clause-holds : goal.returns-in-Retire-clause-holds
+returns-in-Retire-clause-holds c = on_ok c.retire_told.result (from_written c.args.moment c.args.self.now (part_in c.args.self.now c.args.stores.now) c.requires.holds)
 
 pub returns-in-Retire-clause-told : goal.returns-in-Retire-clause-told
 returns-in-Retire-clause-told c = rw c.in-Retire.is c.retire_told.ensures

@@ -19,7 +19,7 @@ use Rattle.tenant_pipeline.specs.Acts.{at}
 use Rattle.tenant_pipeline.specs.Invariant.{PipelineInvariantAt}
 use Rattle.tenant_pipeline.specs.Posts.{held_keys, IsTaken, verdict_after}
 use Rattle.tenant_pipeline.specs.Prepared.{arrivals_of}
-use Rattle.tenant_pipeline.specs.StateIn.{part_in, state_in}
+use Rattle.tenant_pipeline.specs.StateIn.{part_in, written_state_in}
 use Rattle.tenant_pipeline.proofs.Holds.{none_at}
 use Rattle.tenant_pipeline.proofs.Posting.{all_valid, body_left, on_ok, on_ok_both, on_err_then}
 use Rattle.tenant_pipeline.proofs.Taking.{size_is, verdict_taken, post_taken, verdict_limited}
@@ -44,14 +44,14 @@ over c =
 
 pub returns-then-not-fits-clause-on_success : goal.returns-then-not-fits-clause-on_success
 returns-then-not-fits-clause-on_success c =
-    let s = state_in c.args.self.now c.args.stores.now in
+    let s = written_state_in c.args.self.now c.args.stores.now in
     let arrivals = arrivals_of c.args.prepared.now in
     let m = c.args.moment in
     on_ok c.refusal-then-not-fits.result (sym (ap (λ (v : Verdict). posted v (at m s) (all_come m (valid arrivals) (at m s))) (verdict_limited m arrivals s c.if-self.false (over c))))
 
 pub returns-then-not-fits-clause-reply : goal.returns-then-not-fits-clause-reply
 returns-then-not-fits-clause-reply c =
-    let s = state_in c.args.self.now c.args.stores.now in
+    let s = written_state_in c.args.self.now c.args.stores.now in
     subst (λ (v : Verdict). IfOk c.refusal-then-not-fits.result (λ reply. reply ≡ reply_of v)) (sym (verdict_limited c.args.moment (arrivals_of c.args.prepared.now) s c.if-self.false (over c))) c.refusal-then-not-fits.ensures
 
 -- ---- its spans came, or none did, and the origins that were held were given back
@@ -70,7 +70,7 @@ valid_spans c = subst (λ (xs : List Arrival). AllByRecursion (λ a. is_valid a 
 
 -- what is left once the origins are given back
 abbrev Left : goal.After-drop-held → Type 0
-Left c = (state_in c.take_spans-reply.new.self c.release_origins.new.stores ≡ state_in c.take_spans-reply.new.self c.take_spans-reply.new.stores)
+Left c = (written_state_in c.take_spans-reply.new.self c.release_origins.new.stores ≡ written_state_in c.take_spans-reply.new.self c.take_spans-reply.new.stores)
     × PipelineInvariantAt c.args.moment [] [] c.take_spans-reply.new.self (part_in c.take_spans-reply.new.self c.release_origins.new.stores)
 
 left : (c : goal.After-drop-held) → PipelineInvariantAt c.args.moment [] (held_keys c.take_spans-reply.new.held) c.take_spans-reply.new.self (part_in c.take_spans-reply.new.self c.take_spans-reply.new.stores) → Left c
@@ -97,9 +97,9 @@ returns-clause-on_success c =
     let new = c.take_spans-reply.new.self in
     let m = c.args.moment in
     let d = c.args.prepared.now in
-    let s0 = state_in own c.args.stores.now in
-    let t : State = state_in new c.take_spans-reply.new.stores in
-    let u : State = state_in new c.release_origins.new.stores in
+    let s0 = written_state_in own c.args.stores.now in
+    let t : State = written_state_in new c.take_spans-reply.new.stores in
+    let u : State = written_state_in new c.release_origins.new.stores in
     on_ok_both c.take_spans-reply.result (λ (holds : PipelineInvariantAt m [] (held_keys c.take_spans-reply.new.held) new (part_in new c.take_spans-reply.new.stores))
     (taken : IsTaken (arrivals_in c.parts.result.0.now c.parts.result.1.now) c.invalid-invalid.result m s0 t).
     let one : IsTaken d.arrivals c.invalid-invalid.result m s0 t = subst (λ (xs : List Arrival). IsTaken xs c.invalid-invalid.result m s0 t) c.parts.ensures.arrivals taken in
@@ -111,7 +111,7 @@ pub returns-clause-reply : goal.returns-clause-reply
 returns-clause-reply c =
     let m = c.args.moment in
     let d = c.args.prepared.now in
-    let s0 = state_in c.args.self.now c.args.stores.now in
+    let s0 = written_state_in c.args.self.now c.args.stores.now in
     let one = ap (λ (xs : List Arrival). verdict_after xs c.invalid-invalid.result m s0) c.parts.ensures.arrivals in
     let two = ap (λ (k : ℕ). verdict_after d.arrivals k m s0) c.invalid-invalid.ensures in
     let same : verdict_after (arrivals_in c.parts.result.0.now c.parts.result.1.now) c.invalid-invalid.result m s0 ≡ post_verdict m (arrivals_of d) (at m s0) =

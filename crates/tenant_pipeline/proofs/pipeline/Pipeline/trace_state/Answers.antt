@@ -5,7 +5,7 @@ use Rattle.trace_rows.specs.declared.table.Row.{Row}
 use Rattle.tenant_stores.specs.Part.{part}
 use Rattle.tenant_pipeline.specs.declared.place.TraceState.{TraceState}
 use Rattle.tenant_pipeline.specs.Posts.{IsTraceState, IsTraceStateAt}
-use Rattle.tenant_pipeline.specs.StateIn.{counts_in, state_of}
+use Rattle.tenant_pipeline.specs.StateIn.{counts_in, written_state_of}
 use Rattle.tenant_pipeline.proofs.TraceStates.{absent_at, is_absent, is_decided, it_waits}
 use Rattle.tenant_pipeline.proofs.pipeline.Pipeline.trace_state.Goals as goal
 
@@ -15,7 +15,7 @@ returns-in_default-clause-state c =
     let p = part own.tenant c.args.stores.now in
     let held = c.requires.invariant in
     let shows = c.latest_row.ensures.shows (counts_in own) (held.1 ++ own.batcher.spans) held.2 held.3.sound in
-    subst (λ (its_state : TraceState). IsTraceState c.args.trace its_state (state_of own p)) (sym c.cached_state.ensures)
+    subst (λ (its_state : TraceState). IsTraceState c.args.trace its_state (written_state_of own p)) (sym c.cached_state.ensures)
     (is_absent own p c.args.trace (found c.args.trace (shown own.caches)) refl (shows.none (sym c.latest_row.ensures.value ∙ c.in_default.is)))
 
 pub returns-in_default-clause-number : goal.returns-in_default-clause-number
@@ -30,7 +30,7 @@ returns-then-number-self-clause-state c =
     let p = part own.tenant c.args.stores.now in
     let held = c.requires.invariant in
     let shows = c.latest_row.ensures.shows (counts_in own) (held.1 ++ own.batcher.spans) held.2 held.3.sound in
-    subst (λ (its_state : TraceState). IsTraceState c.args.trace its_state (state_of own p)) (sym c.cached_state-then-number-self.ensures)
+    subst (λ (its_state : TraceState). IsTraceState c.args.trace its_state (written_state_of own p)) (sym c.cached_state-then-number-self.ensures)
     (is_absent own p c.args.trace (found c.args.trace (shown own.caches)) refl (shows.gone c.in-Some.number (sym c.latest_row.ensures.value ∙ c.in-Some.is) c.if-number-self.true))
 
 pub returns-then-number-self-clause-number : goal.returns-then-number-self-clause-number

@@ -15,7 +15,7 @@ returns g c =
     let seen = rw c.counters.ensures.hub at c.waiting-waiting.ensures.seen in
     record {
       looked = on_ok c.push_figures.result _ _
-          (looks_more _ c.args.tenant.now _ _ _ _ (map tenant_of c.push_figures.new.figures.items) _ _ look seen c.waiting-waiting.ensures.caller)
+          (looks_more _ c.args.tenant.now _ _ _ _ (map tenant_of c.push_figures.new.figures.items) _ _ _ look seen c.last_answer-answer.ensures c.waiting-waiting.ensures.caller)
           c.push_figures.ensures;
       looks = on_err c.push_figures.result _ (rw c.waiting-waiting.ensures.caller (one_looked _ _ c.args.tenant.now.number _ _ look));
       hub = c.waiting-waiting.ensures.hub ∙ c.counters.ensures.hub;

@@ -18,8 +18,8 @@ loop-tenant-preserved g c =
       same = c.add_figures.ensures.same ∙ before.same;
       lent = c.add_figures.ensures.lent ∙ before.lent;
       hub = c.add_figures.ensures.hub ∙ before.hub;
-      looked = looked_more _ _ c.args.tenants.now c.loop-tenant.tenant-index c.tenant-item.result _ _ _ told.0 told.1 _
-          c.loop-tenant-test.true c.tenant-item.is before.looked (rw before.hub at told.2) (rw before.hub at told.3) told.4;
+      looked = looked_more _ _ c.args.tenants.now c.loop-tenant.tenant-index c.tenant-item.result _ _ _ told.0 told.1 told.2 _
+          c.loop-tenant-test.true c.tenant-item.is before.looked (rw before.hub at told.3) (rw before.hub at told.4) told.5 told.6;
     }
 
 pub returns-in_err-add_figures-clause-looks : goal.returns-in_err-add_figures-clause-looks

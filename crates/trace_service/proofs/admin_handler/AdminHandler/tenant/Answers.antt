@@ -70,9 +70,9 @@ returns-clause-shown g c =
     let at : section_at later.0 c.in-Some.number ≡ Some (section_view section) = sym later.2 ∙ ap (option_map section_view) c.in-Some-2.is in
     let text = rw (c.new-text.ensures.items, c.usage_shown.ensures) at c.in_ok-put_settled_tenant.ensures in
     let seen = rw c.counters.ensures.hub at c.waiting-waiting.ensures.seen in
-    rw c.waiting-waiting.ensures.caller (shown c.in-Some.number (section_view section) (ledger_of c.in-Some-3.counters) c.waiting-waiting.result
+    rw c.waiting-waiting.ensures.caller (shown c.in-Some.number (section_view section) (ledger_of c.in-Some-3.counters) c.waiting-waiting.result c.last_answer.result
     c.in-Some.ensures.known (later.0, later.1, at)
-    (rw c.in-Some-3.is at c.in_ok-counters.ensures.looked) seen
+    (rw c.in-Some-3.is at c.in_ok-counters.ensures.looked) seen c.last_answer.ensures
     (c.shown.ensures ∙ ap (reply_of 200 Json) (text
-    ∙ ap (λ n. settled_text (figures_with n (ledger_of c.in-Some-3.counters) c.waiting-waiting.result) (section_view section))
+    ∙ ap (λ n. settled_text (figures_with n (ledger_of c.in-Some-3.counters) c.waiting-waiting.result c.last_answer.result) (section_view section))
     (c.in_ok-from_str.ensures.ok ∙ c.in-Some.ensures.name))))

@@ -1,7 +1,0 @@
-use Rattle.admin_pages.proofs.Pieces.{last}
-use Rattle.admin_pages.proofs.metrics.put_ready.Goals as goal
-
-pub returns : goal.returns
-returns c =
-    last c.put_moments.result c.args.out.now.items c.put_head.new.out.items c.put_moments.new.out.items _ _
-    c.in_ok-put_head.ensures c.put_moments.ensures
