@@ -13,6 +13,7 @@ test: checks
 	@said=$$(python3 tests/script_lines.py $(PROGRAM)/out/trace_collector_program) || { echo "$$said"; exit 1; }
 	@said=$$(python3 tests/random_scripts.py $(PROGRAM)/out/trace_collector_program) || { echo "$$said"; exit 1; }
 	@said=$$(python3 tests/random_settings.py $(PROGRAM)/out/trace_collector_program) || { echo "$$said"; exit 1; }
+	@said=$$(python3 tests/random_bodies.py $(PROGRAM)/out/trace_collector_program) || { echo "$$said"; exit 1; }
 	@said=$$(python3 tests/service.py $(PROGRAM)/out/trace_collector_program) || { echo "$$said"; exit 1; }
 	@said=$$(python3 tests/package.py $(PROGRAM)/out/trace_collector_program) || { echo "$$said"; exit 1; }
 	@said=$$(python3 tests/replay/steady.py $(PROGRAM)/out/trace_collector_program 100000) || { echo "$$said"; exit 1; }
@@ -73,12 +74,13 @@ BIN = $(PREFIX)/bin
 MAN = $(PREFIX)/share/man/man1
 UNITS = $(PREFIX)/lib/systemd/system
 EXAMPLES = $(PREFIX)/share/doc/nimchaes/examples
+PAGES = $(PREFIX)/share/doc/nimchaes/docs
 
-# Puts the program that is built, its manual page, its unit for systemd and examples to start from below DESTDIR. It
-# proves and builds nothing, so that root needs no toolchain.
+# Puts the program that is built, its manual page, its unit for systemd, examples to start from and operators' pages below
+# DESTDIR. It proves and builds nothing, so that root needs no toolchain.
 install:
 	@test -x $(BUILT) || { echo 'make: $(BUILT) is not there yet: make trace_collector builds it' >&2; exit 1; }
-	install -d $(DESTDIR)$(BIN) $(DESTDIR)$(MAN) $(DESTDIR)$(UNITS) $(DESTDIR)$(EXAMPLES)
+	install -d $(DESTDIR)$(BIN) $(DESTDIR)$(MAN) $(DESTDIR)$(UNITS) $(DESTDIR)$(EXAMPLES) $(DESTDIR)$(PAGES)
 	install -m 755 $(BUILT) $(DESTDIR)$(BIN)/trace_collector
 	python3 packaging/manual.py $(abspath $(BUILT)) > $(DESTDIR)$(MAN)/trace_collector.1
 	sed -e 's|@BIN@|$(BIN)|g' -e 's|@ETC@|$(ETC)|g' packaging/nimchaes.service.in > $(DESTDIR)$(UNITS)/nimchaes.service
@@ -86,6 +88,8 @@ install:
 	install -m 644 examples/start.toml $(DESTDIR)$(EXAMPLES)/settings.toml
 	install -m 644 examples/prometheus.yml examples/alerts.yml examples/nginx.conf $(DESTDIR)$(EXAMPLES)
 	install -m 755 examples/collector-run $(DESTDIR)$(EXAMPLES)
+	install -m 644 $(addprefix docs/,$(addsuffix .md,OPERATING ADMIN METRICS TROUBLE SIZING CONNECTING SCALING SETTINGS \
+	  FAULTS HTTP SCRIPT)) $(DESTDIR)$(PAGES)
 
 # A package for Debian of all that, in out/.
 deb: trace_collector

@@ -25,7 +25,7 @@ from serving.talk import MOST, BackEnd, body, check, globals_of, head_of, line_o
 
 PORT, ADMIN = 4318, 9464
 HERE = Path(__file__).resolve().parent.parent
-OPERATING = HERE / "docs/OPERATING.md"
+ADMIN_PAGE = HERE / "docs/ADMIN.md"
 UNIT, SETTINGS = "nimchaes.service", "/etc/nimchaes/settings.toml"
 GOOD, ENDED, LIMIT = ["active", "success", "0"], ["inactive", "success", "0"], 5
 # What would speak to the kernel, and what nobody needs there.
@@ -209,9 +209,9 @@ def is_killed(machine, back_end):
 
 
 def with_token(machine):
-    """As docs/OPERATING.md has it for those who look after it from elsewhere: nothing is told without the token, and a
-    stop has it."""
-    given = re.search(r"```ini\n(\[Service\]\nLoadCredential=.*?)```", OPERATING.read_text(), re.DOTALL)[1]
+    """As docs/ADMIN.md has it for operators elsewhere: nothing is told without the token, and a stop has the one that
+    the process was given, also where another one has taken its place in the file."""
+    given = re.search(r"```ini\n(\[Service\]\nLoadCredential=.*?)```", ADMIN_PAGE.read_text(), re.DOTALL)[1]
     edit = machine.file(f"/etc/systemd/system/{UNIT}.d/token.conf")
     edit.write_text(given)
     token = machine.file("/etc/nimchaes/token")
@@ -222,6 +222,8 @@ def with_token(machine):
     asked = ("curl", "-s", "-o", "/dev/null", "-w", "%{http_code}", f"http://127.0.0.1:{ADMIN}/tenants")
     check("without the token", machine.asked(*asked), "401")
     check("with it", machine.asked(*asked, "--oauth2-bearer", "0123456789abcdef"), "200")
+    token.write_text("fedcba9876543210\n")
+    check("with the next one", machine.asked(*asked, "--oauth2-bearer", "fedcba9876543210"), "401")
     check("a post", posted(4, 1), 4)
     check("a stop", machine.does("systemctl", "stop", UNIT), (0, ""))
     check("what it says", (machine.state(), reports(machine)[-1:]),

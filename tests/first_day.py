@@ -20,10 +20,11 @@ from threading import Thread
 
 from serving import talk
 from serving.runs import end, run
-from serving.talk import MOST, check, wait_for
+from serving.talk import MOST, body, check, wait_for
 
 HERE = Path(__file__).resolve().parent.parent
-PAGES = ("README.md", "docs/OPERATING.md", "docs/SIZING.md", "docs/CONNECTING.md", "docs/SCRIPT.md")
+PAGES = ("README.md", *(f"docs/{name}.md" for name in (
+    "OPERATING", "ADMIN", "TROUBLE", "SIZING", "CONNECTING", "SCALING", "SCRIPT")))
 # what isn't typed here, and why
 NOT_TYPED = {
     r"make (serve|trace_collector|deb)\b": "proves; what it runs then is typed below, or built by tests/package.py",
@@ -41,6 +42,7 @@ endpoint = "127.0.0.1:4319"
 [[tenant.tail_sampling.policy]]
 type = "always_sample"
 """
+ADMIN = "admin port at 127.0.0.1:9464"
 typed = set()
 
 
@@ -153,11 +155,11 @@ def shown(folder):
 
 
 def first_ten_minutes(folder):
-    """docs/OPERATING.md: three terminals with the port for operators, then settings of one's own."""
+    """docs/OPERATING.md: three terminals with the admin port, then settings of one's own."""
     terminal, page = Terminal(folder), "docs/OPERATING.md"
     with terminal.start(command(page, "python3 examples/back_end.py")) as back_ends, \
             terminal.start(command(page, "./trace_collector serve examples/service.toml")) as service:
-        service.says("looked after at 127.0.0.1:9464")
+        service.says(ADMIN)
         check("the post", terminal.type(command(page, "curl -i http://127.0.0.1:4318"))[0], 0)
         back_ends.says("back end at 4319: POST /v1/traces, 214 bytes")
         for begin, part in (("curl http://127.0.0.1:9464/tenants/shop", '"accepted":1'),
@@ -183,28 +185,55 @@ def first_ten_minutes(folder):
 
 def tenants_and_tokens(folder):
     """Many clients, a tenant that comes and goes, and a token."""
-    terminal, page = Terminal(folder), "docs/OPERATING.md"
-    status, limit = command(page, "ulimit -n"), command(page, "./trace_collector serve my.toml")
+    terminal, page, first = Terminal(folder), "docs/ADMIN.md", "docs/OPERATING.md"
+    status, limit = command(first, "ulimit -n"), command(first, "./trace_collector serve my.toml")
     typed.add(status)
     Path(folder, "tenant.toml").write_text(TENANT)
     check("a token", terminal.type(command(page, "openssl rand"))[0], 0)
     terminal.words(limit)
     with Started(["bash", "-c", f"{status}\nexec {limit} --verbose"], folder) as service:
-        service.says("looked after at 127.0.0.1:9464")
+        service.says(ADMIN)
         go, come = command(page, "curl -i -X DELETE"), command(page, "curl -i --data-binary @tenant.toml")
         check("check", terminal.type(command(page, "./trace_collector check tenant.toml"))[0], 0)
         for what, typing, wanted in (("who is there", come, "HTTP/1.1 409 "), ("one goes", go, "HTTP/1.1 200 "),
                                      ("another comes", come, "HTTP/1.1 201 ")):
             status, said = terminal.type(typing)
             check(f"{what}: {said}", (status, said.partition("HTTP/")[1] + said.partition("HTTP/")[2][:8]), (0, wanted))
-        check("a drain", terminal.type(command(page, "curl -X POST http://127.0.0.1:9464/drain"))[0], 0)
+        check("a drain", terminal.type(command(first, "curl -X POST http://127.0.0.1:9464/drain"))[0], 0)
         check("it ends", service.run.wait(MOST), 0)
     with_token = limit.replace("127.0.0.1:9464", "127.0.0.1:9464 --admin-token-file token")
     with Started(["bash", "-c", f"ulimit -n 2048\nexec {with_token} --verbose"], folder) as service:
-        service.says("looked after at 127.0.0.1:9464")
+        service.says(ADMIN)
         status, said = terminal.type(command(page, 'curl -H "Authorization: Bearer'), changed={"10.0.0.5": "127.0.0.1"})
         check(f"with the token: {said[:200]}", (status, '"tenant":"shop"' in said), (0, True))
         check("without it", '"tenant":"shop"' in ran(["curl", "-s", "http://127.0.0.1:9464/tenants"], folder)[1], False)
+
+
+def first_look(folder):
+    """docs/TROUBLE.md: of a span without an id, and of a back end that isn't there and then is; and each alert is there."""
+    terminal, page, first = Terminal(folder), "docs/TROUBLE.md", "docs/OPERATING.md"
+    alerts = re.findall(r"- alert: (\w+)", (HERE / "examples/alerts.yml").read_text())
+    check("alerts", sorted(re.findall(r"`(Nimchaes\w+)`", (HERE / page).read_text())), sorted(alerts))
+    look, *chosen, asks = commands_of(page)
+    there = {"ENDPOINT": "127.0.0.1:4319"}
+    Path(folder, "body").write_bytes(body(0, 1))
+    with terminal.start(command(first, "./trace_collector serve examples/service.toml")) as service:
+        service.says(ADMIN)
+        post = command(first, "curl -i http://127.0.0.1:4318")
+        check("a post", terminal.type(post)[0], 0)
+        check("one without ids", terminal.type(post, changed={"examples/trace.pb": "body"})[0], 0)
+        service.says("back end of shop: no answer")
+        check("a look", terminal.type(look), (0, ""))
+        found = [terminal.type(typing)[1].splitlines() for typing in chosen]
+        check("what is lost", found[0], ['nimchaes_invalid_spans_total{tenant="shop"} 1'])
+        check("whose back end fails", found[1], ['nimchaes_back_end_last_status{tenant="shop"} 0'])
+        wanted = {'nimchaes_requests_total{code="200"} 2', "nimchaes_draining 0", "nimchaes_memory_refusals_total 0",
+                  "nimchaes_receivers 2", "nimchaes_senders 2", "nimchaes_lane_jobs 0"}
+        check("what is told, and what is busy", wanted - set(found[2]), set())
+        check("nobody is there", terminal.type(asks, changed=there)[0], 7)
+    with terminal.start(command(first, "python3 examples/back_end.py")) as back_ends:
+        wait_for(lambda: " 200 OK" in terminal.type(asks, changed=there)[1], "the back end is there")
+        back_ends.says("back end at 4319: POST /v1/traces, 0 bytes")
 
 
 def replayed(folder):
@@ -222,7 +251,7 @@ def replayed(folder):
     check("its answers", terminal.type(second), (0, wanted))
 
 
-TESTS = (shown, by_standard_input, first_ten_minutes, tenants_and_tokens, replayed)
+TESTS = (shown, by_standard_input, first_ten_minutes, tenants_and_tokens, first_look, replayed)
 ALL = {found for page in PAGES for found in commands_of(page)}
 
 

@@ -23,7 +23,10 @@ HERE = Path(__file__).resolve().parent.parent
 FILES = {"bin/trace_collector": 0o755, "share/man/man1/trace_collector.1": 0o644,
          "lib/systemd/system/nimchaes.service": 0o644, "share/doc/nimchaes/examples/settings.toml": 0o644,
          "share/doc/nimchaes/examples/prometheus.yml": 0o644, "share/doc/nimchaes/examples/alerts.yml": 0o644,
-         "share/doc/nimchaes/examples/nginx.conf": 0o644, "share/doc/nimchaes/examples/collector-run": 0o755}
+         "share/doc/nimchaes/examples/nginx.conf": 0o644, "share/doc/nimchaes/examples/collector-run": 0o755,
+         **{f"share/doc/nimchaes/docs/{page}.md": 0o644 for page in (
+             "OPERATING", "ADMIN", "METRICS", "TROUBLE", "SIZING", "CONNECTING", "SCALING", "SETTINGS", "FAULTS", "HTTP",
+             "SCRIPT")}}
 
 
 def is_there(*names):
@@ -122,9 +125,9 @@ def unit_runs(folder):
     unit = root / "usr/lib/systemd/system/nimchaes.service"
     check("all is filled in", "@" in re.sub("SystemCallFilter=.*", "", unit.read_text()), False)
     variables = dict(word.partition("=")[::2] for line in lines_of(unit, "Environment") for word in line)
-    check("where it is looked after", variables["ADMIN"], "127.0.0.1:9464")
+    check("the admin port", variables["ADMIN"], "127.0.0.1:9464")
     limits = [word for word in variables["OPTIONS"].split() if word.startswith("--")]
-    check("who rests is let go", limits, ["--client-timeout", "--request-timeout", "--back-end-timeout"])
+    check("what is bounded", limits, ["--body-memory", "--client-timeout", "--request-timeout", "--back-end-timeout"])
     port = free_port()
     variables |= {"ADMIN": f"127.0.0.1:{free_port()}", "OPTIONS": variables["OPTIONS"] + " --connections 8"}
     with BackEnd() as back_end:

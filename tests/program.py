@@ -24,14 +24,15 @@ WAYS = b"""usage: trace_collector replay SETTINGS
        trace_collector check SETTINGS
        trace_collector serve SETTINGS [--audit] [--verbose] [--connections N] [--senders N]
                        [--client-timeout MS] [--request-timeout MS] [--back-end-timeout MS]
-                       [--admin HOST:PORT [--admin-token-file FILE]]
+                       [--body-memory BYTES] [--admin HOST:PORT [--admin-token-file FILE]]
        trace_collector --help | --version
 
 """
 SPAN = "0a20121e121c0a101111111111111111111111111111111112082121212121212121"
-# the options of `serve` that have a number, and the greatest one
+# the options of `serve` that have a number, the greatest one, and the least one where it isn't 1
 MOST = {"--connections": 65_536, "--senders": 4_096, "--client-timeout": 2**32 - 1, "--request-timeout": 2**32 - 1,
-        "--back-end-timeout": 2**32 - 1}
+        "--back-end-timeout": 2**32 - 1, "--body-memory": 10**19 - 1}
+LEAST = {**dict.fromkeys(MOST, 1), "--body-memory": 20_971_520}
 failed = 0
 
 
@@ -59,8 +60,9 @@ def usage():
              ["serve", SETTINGS, "--connections"], ["serve", SETTINGS, "--connections", "--audit"],
              ["serve", SETTINGS, "--audit", "--senders"], ["serve", SETTINGS, "--senders=1"],
              *(["serve", SETTINGS, option, value] for option, most in MOST.items()
-               for value in ("0", str(most + 1), "-1", "+1", "1.0", "1ms", "0x1", " 1", "", str(2**64 + 1))),
-             *(["serve", SETTINGS, option, "1", "--verbose", option, "1"] for option in MOST))
+               for value in ("0", str(LEAST[option] - 1), str(most + 1), "", str(2**64 + LEAST[option]),
+                             *(sign.format(LEAST[option]) for sign in ("-{}", "+{}", "{}.0", "{}ms", "0x{}", " {}")))),
+             *(["serve", SETTINGS, option, str(least), "--verbose", option, str(least)] for option, least in LEAST.items()))
     for arguments in wrong:
         check(arguments, ended(arguments), (2, b"", USAGE))
     status, out, err = ended(["--help"])
@@ -596,7 +598,7 @@ def course():
         numbers = {"--connections": "300", "--senders": "00300", **{option: str(MOST[option]) for option in list(MOST)[2:]}}
         words = [word for option, value in numbers.items() for word in (option, value)]
         check("all options", served("--verbose", *words, "--audit"), (0, report * 2 + audit, stages))
-        turned = [word for option in reversed(MOST) for word in (option, "1")]
+        turned = [word for option, least in reversed(LEAST.items()) for word in (option, str(least))]
         check("the least of all, turned round", served("--audit", *turned), (0, report * 2 + audit, b""))
         with open("/dev/full", "wb") as full:
             check("a full disk", served("--verbose", stderr=full), (0, report * 2, None))

@@ -35,6 +35,7 @@ KNOWN = [
     ("trace_collector_program/src/serve.rt", "from", 1, "a thread wasn't started for want of what one is started with"),
     ("tenant_shard/src/shard.rt", "run", 2, "room for the outcomes was refused, or a step was"),
     ("trace_service/src/post.rt", "without_memory", 1, "the reply itself"),
+    ("trace_service/src/context.rt", "reply_to_head", 1, "bodies on their way leave too little for this one, of what they may take"),
     ("trace_service/src/context.rt", "admitted", 1, "memory was refused, and not all is done yet that was put off for it"),
     ("trace_service/src/changes.rt", "added", 1, "there was no memory to hear what is answered: it is no text"),
     ("trace_service/src/changes.rt", "add_answered", 1, "there was no memory to hear what is answered"),
@@ -353,6 +354,8 @@ def arrow_before(code, i):
 def pattern_before(code, arrow):
     """The words of an arm's pattern, with its guard."""
     at, level = arrow - 1, code.inside[arrow]
+    if code.word(at) == "}":
+        at = code.match.get(at, at) - 1
     while at >= 0 and code.inside[at] == level and code.words[at] not in (",", "}", "=>"):
         at = code.match.get(at, at) - 1 if code.words[at] in (")", "]") else at - 1
     return " ".join(code.words[at + 1 : arrow])
@@ -365,7 +368,8 @@ def is_mapped(code, i):
     while at is not None:
         arrow = arrow_before(code, at)
         if arrow is not None:
-            named = re.fullmatch(r"(?:\w+ \( )*((?:\w+ :: )*)(AllocError|OutOfMemory)(?: \))*", pattern_before(code, arrow))
+            shape = r"(?:\w+ \( )*((?:\w+ :: )*)(AllocError|OutOfMemory)(?: \{[\w :,]*\})?(?: \))*"
+            named = re.fullmatch(shape, pattern_before(code, arrow))
             imports = re.search(r"\buse std :: [^;]*\bAllocError\b", " ".join(code.words))
             return bool(named and (named[1] or named[2] == "AllocError" and imports))
         at = code.inside[at]
@@ -484,6 +488,7 @@ FOUND = [
     "fn f(n: u64) -> R { let Some(x) = n else { return Err(AllocError) }; match x { A => 1, B => 2 } }",
     "fn f(x: R) -> Reply { match x { Ok(y) => y, Err(Refusal::Bad(_)) => without_memory(a) } }",
     "fn f(x: R) -> Reply { match x { Ok(y) => y, Err(_) => without_memory(a) } }",
+    "fn f(x: R) -> Q { match x { Fault::Deep { at } => Q::OutOfMemory { at }, Fault::OutOfMemory { at } => Q::Bad { at } } }",
     "use crate::post::without_memory as other; fn f() -> Reply { other(a) }",
     "fn f(a: Global) -> Reply { Reply { status: 503, body: Vec::new(a) } }",
 ]
@@ -507,6 +512,7 @@ PASSED = [
     "fn f(x: R) -> Q { match x { Ok(y) => Ok(y), Err(FromHexError::OutOfMemory) => Err(AllocError), Err(_) => Ok(z) } }",
     "fn f(x: R) -> Q { match x { Fault::Deep { at } => Q::Deep { at }, Fault::OutOfMemory => Q::OutOfMemory } }",
     "fn f(x: R) -> Q { match x { Ok(y) => { g(y) } Err(Refusal::OutOfMemory) => { Err(Q::OutOfMemory) } } }",
+    "fn f(x: R) -> Q { match x { R::Deep { at } => g(at), R::OutOfMemory { at: n } => { set(n); Err(Q::OutOfMemory) } } }",
     "fn f(g: Vec<AllocError>, h: &AllocError) -> Option<AllocError> { h.go::<AllocError>() }",
     "fn f(x: R) -> Reply { match x { Ok(y) => y, Err(HubFault::OutOfMemory) => without_memory(a) } }",
     "fn f(reply: &Reply) -> bool { reply.status == 503 }",

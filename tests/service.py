@@ -16,8 +16,8 @@ import subprocess
 import sys
 from pathlib import Path
 
-from serving import (admin, agreement, back_ends, clients, comings, ending, late, limits, loopback, memory, rest, short,
-                     talk)
+from serving import (admin, agreement, back_ends, bodies, clients, comings, ending, late, limits, loopback, memory,
+                     rest, short, talk)
 from serving.runs import end, run
 
 HERE = Path(__file__).resolve().parent.parent
@@ -31,11 +31,19 @@ def agree(folder):
     agreement.agrees(folder, SHORT)
 
 
-TESTS = {test.__name__: test
-         for test in (*loopback.TESTS, *clients.TESTS, *back_ends.TESTS, *late.TESTS, *comings.TESTS, *limits.TESTS,
-                      *rest.TESTS, *ending.TESTS, *memory.TESTS, *admin.TESTS, *short.TESTS, agree)}
+def named(*tests):
+    """Tests by their names; each has its own, or one of two would never run."""
+    names = [test.__name__ for test in tests]
+    twice = {name for name in names if names.count(name) > 1}
+    if twice:
+        sys.exit(f"service.py: two tests have one name: {' '.join(sorted(twice))}")
+    return dict(zip(names, tests))
+
+
+TESTS = named(*loopback.TESTS, *clients.TESTS, *back_ends.TESTS, *late.TESTS, *comings.TESTS, *limits.TESTS, *bodies.TESTS,
+              *rest.TESTS, *ending.TESTS, *memory.TESTS, *admin.TESTS, *short.TESTS, agree)
 # Those of these names alone.
-BY_HAND = {test.__name__: test for test in (*short.BY_HAND, *admin.BY_HAND)}
+BY_HAND = named(*short.BY_HAND, *admin.BY_HAND)
 
 
 def main():

@@ -416,7 +416,7 @@ class AuditedEnd(Draining):
 
 
 class DrainedByCall(Draining):
-    """The same by a call of those who look after it: who is told want of memory may ask again."""
+    """The same by a call at the admin port: who is told want of memory may ask again."""
 
     KIND, GOOD, MEMORY = LookedAfter, {200}, {503}
 
@@ -437,7 +437,7 @@ class DrainedByCall(Draining):
 
 
 class Looked(Case):
-    """What is looked at at the port for operators."""
+    """What is looked at at the admin port."""
 
     KIND, TARGET = LookedAfter, "/"
     # Figures that change by themselves.

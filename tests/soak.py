@@ -3,7 +3,7 @@
 
     make trace_collector && python3 tests/soak.py [PROGRAM] [--minutes N] [--rate N]    # ten minutes, 60 posts a second
 
-Fifty tenants, ten of which come and go by the port for operators all the while, each for some seconds and then another
+Fifty tenants, ten of which come and go by the admin port all the while, each for some seconds and then another
 of that name. Their back ends are good, busy, slow, reject spans, refuse batches, break off or hold their answer for
 longer than `--back-end-timeout`. Clients keep their connections, and others open some and drop them: before a request,
 in it, by a reset, at rest until `--client-timeout`, or with a reply that they don't read.

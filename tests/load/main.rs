@@ -1,6 +1,8 @@
-//! Load for the collector as a service, and a back end for it: what `load post` and `load sink` do stands in post.rs
-//! and sink.rs. measure.py builds and starts both, and so do the others that stand beside it.
+//! Load for the collector as a service, a back end for it, and what stands in its place: what `load post`, `load sink`
+//! and `load serve` do stands in post.rs, sink.rs and floor.rs. measure.py builds it, and starts the first two, and so
+//! do the others that stand beside it.
 
+mod floor;
 mod http;
 mod post;
 mod shares;
@@ -31,6 +33,7 @@ fn main() -> io::Result<()> {
     let words: Vec<String> = env::args().skip(1).collect();
     match words.split_first() {
         Some((word, [])) if word == "sink" => return sink::run(),
+        Some((word, [file])) if word == "serve" => return floor::run(file),
         Some((word, rest)) if word == "post" => {
             if let Some(load) = load_of(rest) {
                 return post::run(load);
@@ -38,6 +41,6 @@ fn main() -> io::Result<()> {
         }
         _ => {}
     }
-    eprintln!("load sink | load post PORT TENANTS CONNECTIONS RATE SECONDS SPANS [FIRST] [each]");
+    eprintln!("load sink | load serve SETTINGS | load post PORT TENANTS CONNECTIONS RATE SECONDS SPANS [FIRST] [each]");
     process::exit(2)
 }

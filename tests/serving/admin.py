@@ -1,4 +1,4 @@
-"""What the port for operators does."""
+"""What the admin port does."""
 
 import json
 import resource
@@ -43,7 +43,7 @@ SCRAPES = 10
 
 
 class LookedAfter(Service):
-    """The service with a port for operators."""
+    """The service with an admin port."""
 
     def __init__(self, folder, tenants, *options, **how):
         self.admin = None

@@ -149,7 +149,7 @@ def sent_until_cut(peer, text):
     return count
 
 
-def many_connections(folder):
+def many_clients(folder):
     """Two hundred clients at once: each is answered, and each span arrives once."""
     statuses = []
     gate = threading.Barrier(CONNECTIONS)
@@ -260,5 +260,5 @@ def no_room_to_wait(folder):
         check("the end", service.end(), (0, "", b""))
 
 
-TESTS = (cut, gone, in_pieces, half_a_request, sends_all_first, never_stops, many_connections, a_long_step,
+TESTS = (cut, gone, in_pieces, half_a_request, sends_all_first, never_stops, many_clients, a_long_step,
          without_files, no_room_to_wait)

@@ -89,6 +89,24 @@ def with_clients(folder):
         check("spans", b"".join(back_end.bodies()).count(b"\x0a\x10"), taken)
 
 
+def with_new_clients(folder):
+    """While a back end holds up the end, who connects is told that the service shuts down, and once all is sent the
+    service ends though others have just come."""
+    with BackEnd(None) as back_end, Service(folder, [tenant("a", back_end)]) as service:
+        check("a post", service.post("a", body(1, 1)), (200, b""))
+        wait_for(lambda: back_end.posts, "it is sent")
+        service.run.stdin.close()
+        taken = 1
+        while (told := service.post("a", body(2, 2))) == (200, b""):
+            taken += 1
+        for _ in range(3):
+            check("what who connects is told", told, (503, b"\x12\x0dshutting down"))
+            told = service.post("a", body(3, 3))
+        back_end.release()
+        check("reports", service.hear(), line_of("a", accepted=taken, exported=taken))
+        check("the end", service.end(), (0, "", b""))
+
+
 def with_busy_clients(folder):
     """Who posts again and again over one connection doesn't keep the service: once all is sent each is let go behind a
     reply, and none within a post."""
@@ -237,7 +255,7 @@ def without_streams(folder):
         check("no input", (done.returncode, done.stdout, done.stderr), (0, line_of("a").encode(), b""))
 
 
-def few_files(folder):
+def too_few_files(folder):
     """With one file fewer than receivers, senders and all else need at a time the service says so, and doesn't listen. With
     as many as that none waits for a file."""
     need = 4 + 2 + 5
@@ -358,5 +376,5 @@ def port_below(process):
         return None
 
 
-TESTS = (drained, giving_up, with_clients, with_busy_clients, told_of, skipped, failing_output, cut_answers, without_streams, few_files, told_why,
+TESTS = (drained, giving_up, with_clients, with_new_clients, with_busy_clients, told_of, skipped, failing_output, cut_answers, without_streams, too_few_files, told_why,
          failing_input, started_by_a_script)

@@ -49,7 +49,7 @@ def a_span_each(folder, *options):
         check("each is sent once", (len(ones.posts), len(others.posts)), (1, 1))
 
 
-def with_an_audit(folder):
+def a_span_each_with_an_audit(folder):
     a_span_each(folder, "--audit")
 
 
@@ -184,5 +184,5 @@ def the_most_of_all(folder):
         check("posts", sorted(back_end.bodies()) == sorted([body(1 + at, 1) for at in range(250)] * 4), True)
 
 
-TESTS = (a_span_each, with_an_audit, replies, longest_body, reports, faulty_starts, without_room,
+TESTS = (a_span_each, a_span_each_with_an_audit, replies, longest_body, reports, faulty_starts, without_room,
          the_most_of_all)

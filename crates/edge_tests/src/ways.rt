@@ -154,15 +154,48 @@ fn used_buffer(alloc: Global) -> Result<Vec<u8>, AllocError> {
     Ok(buffer)
 }
 
-/// What a client is told where memory was refused before its reply was there.
-fn no_memory(form: RefusalForm) -> &'static [u8] {
+/// The head and the body of what a client is told where memory was refused before its reply was there.
+fn no_memory(form: RefusalForm) -> (&'static [u8], &'static [u8]) {
     match form {
-        RefusalForm::Status =>
+        RefusalForm::Status => (
             b"HTTP/1.1 503 Service Unavailable\r\nContent-Type: application/x-protobuf\r\n\
-Connection: close\r\nContent-Length: 15\r\n\r\n\x12\x0dout of memory",
-        RefusalForm::Json =>
+Connection: close\r\nContent-Length: 15\r\n\r\n",
+            b"\x12\x0dout of memory",
+        ),
+        RefusalForm::Json => (
             b"HTTP/1.1 503 Service Unavailable\r\nContent-Type: application/json\r\n\
-Connection: close\r\nContent-Length: 25\r\n\r\n{\"error\":\"out of memory\"}",
+Connection: close\r\nContent-Length: 25\r\n\r\n",
+            b"{\"error\":\"out of memory\"}",
+        ),
+    }
+}
+
+/// What is written before that reply, which has a body or not.
+fn before_no_memory(output: &[u8], form: RefusalForm, bodiless: bool) -> Option<&[u8]> {
+    let (head, body) = no_memory(form);
+    if bodiless {
+        output.strip_suffix(head)
+    } else {
+        output.strip_suffix(body)?.strip_suffix(head)
+    }
+}
+
+/// Whether the first message is HEAD, or one behind it is. A talk with HEAD has two messages at most.
+fn is_head(input: &[u8], is_first: bool) -> bool {
+    if is_first {
+        input.starts_with(b"HEAD /")
+    } else {
+        input.windows(7).any(|w| w.ends_with(b"HEAD /"))
+    }
+}
+
+/// Whether the client is told that there was no memory behind a beginning of what is to be written, by a reply that
+/// has no body where the message that gets it is HEAD, and has it otherwise.
+fn is_told_of_memory(talk: &Talk, output: &[u8], form: RefusalForm, bodiless: bool) -> bool {
+    match before_no_memory(output, form, bodiless) {
+        Some(front) => talk.want.starts_with(front)
+            && is_head(&talk.input, front.is_empty()) == bodiless,
+        None => false,
     }
 }
 
@@ -181,10 +214,11 @@ fn is_told_or_refused<R: Threads + Sync, H: Handler>(
         Ok(()) => line.output() == talk.want.as_slice() || tells_of_memory(line.output()),
         Err(EdgeFault::ReadFailed) => false,
         Err(EdgeFault::WriteFailed) => talk.want.starts_with(line.output()),
-        Err(EdgeFault::OutOfMemory) => match line.output().strip_suffix(no_memory(H::refusals())) {
-            Some(front) => talk.want.starts_with(front),
-            None => false,
-        },
+        Err(EdgeFault::OutOfMemory) => {
+            let form = H::refusals();
+            is_told_of_memory(talk, line.output(), form, false)
+                || is_told_of_memory(talk, line.output(), form, true)
+        }
     })
 }
 

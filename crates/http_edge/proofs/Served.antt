@@ -4,7 +4,7 @@ use Rattle.httparse.specs.Grammar.{RequestHead}
 use Rattle.http_edge.specs.declared.head.Head.{Head}
 use Rattle.http_edge.specs.declared.wire.EdgeFault.{EdgeFault}
 use Rattle.http_edge.specs.declared.wire.EdgeFault.TheVariants.{ReadFailed, OutOfMemory}
-use Rattle.http_edge.specs.Message.{Request, Response, Message, Frame, sized, chunked, HasBody, HasMessage, request_of, with_body, closes, expects, max_body}
+use Rattle.http_edge.specs.Message.{Request, Response, Message, Frame, sized, chunked, HasBody, HasMessage, request_of, with_body, closes, expects, is_bodiless, max_body}
 use Rattle.http_edge.specs.Talk.{Exchange, exchange_text, interim_text, Asks, told, Runs, Talks, Due, Lacks, Begins, MayInterim, interim, replying, at_reply, breaking, lacking}
 use Rattle.http_edge.specs.Reply.{continue_text, is_for_no_memory, no_memory_text}
 use Rattle.http_edge.specs.Stages.{IsHead, IsHeadOf, IsMessageOf, kept_if, frame_by, message_with, IsBrokenOff, IsShort, IsCut, IsOver, StaysOpen, Replies}
@@ -104,7 +104,7 @@ due_reply answers {old} {new} {m} {text} {missing} bytes after has p =
 pub lacks_reply : {form : RefusalForm} {H : Type 0} (answers : H → Request → Response → H
     → Type 0) {old new : H} {m : Message} {text missing : List ℕ} (bytes after : List ℕ) → HasMessage bytes m after
     → (p : Replies form answers old new m text missing) → is_for_no_memory p.reply ≡ false
-    → Lacks answers old bytes new (interim_text m.head)
+    → Lacks answers old bytes new (is_bodiless m.head) (interim_text m.head)
 lacks_reply answers {m = m} bytes after has p is =
     at_reply (record { message = m; reply = p.reply }) after has p.answered is
 
@@ -181,10 +181,10 @@ broken_after {b0 = b0} {read = read} p e q = record {
   due = rw (← append_assoc b0 read q.read, ← e) q.due;
 }
 
-short_after : {H : Type 0} {answers : H → Request → Response → H
+short_after : {bodiless : Bool} {H : Type 0} {answers : H → Request → Response → H
     → Type 0} {old new : H} {L : Type 0} {gives takes : L → L → List ℕ → Type 0} {l0 l1 l2 : L} {b0 b1 read : List ℕ} → Moves gives takes l0 l1 read []
-    → b1 ≡ b0 ++ read → IsShort answers old new gives takes l1 l2 b1
-    → IsShort answers old new gives takes l0 l2 b0
+    → b1 ≡ b0 ++ read → IsShort bodiless answers old new gives takes l1 l2 b1
+    → IsShort bodiless answers old new gives takes l0 l2 b0
 short_after {b0 = b0} {read = read} p e q = record {
   read = read ++ q.read;
   written = q.written;
@@ -192,22 +192,22 @@ short_after {b0 = b0} {read = read} p e q = record {
   lacks = rw (← append_assoc b0 read q.read, ← e) q.lacks;
 }
 
-pub cut_after : {form : RefusalForm} {H : Type 0} {fault : EdgeFault} {answers : H → Request → Response → H
+pub cut_after : {form : RefusalForm} {H : Type 0} {fault : EdgeFault} {bodiless : Bool} {answers : H → Request → Response → H
     → Type 0} {old new : H} {L : Type 0} {gives takes : L → L → List ℕ → Type 0} {l0 l1 l2 : L} {b0 b1 read : List ℕ} → Moves gives takes l0 l1 read []
-    → b1 ≡ b0 ++ read → IsCut form fault answers old new gives takes l1 l2 b1
-    → IsCut form fault answers old new gives takes l0 l2 b0
+    → b1 ≡ b0 ++ read → IsCut form fault bodiless answers old new gives takes l1 l2 b1
+    → IsCut form fault bodiless answers old new gives takes l0 l2 b0
 cut_after p e q = record {
   broken = λ lack. broken_after p e (q.broken lack);
   short = λ lack. short_after p e (q.short lack);
 }
 
 -- by the same fault
-pub cut_by : {form : RefusalForm} {H : Type 0} {fault other : EdgeFault} {answers : H → Request → Response → H
+pub cut_by : {form : RefusalForm} {H : Type 0} {fault other : EdgeFault} {bodiless : Bool} {answers : H → Request → Response → H
     → Type 0} {old new : H} {L : Type 0} {gives takes : L → L → List ℕ → Type 0} {first last : L} {before : List ℕ}
-    → IsCut form fault answers old new gives takes first last before → fault ≡ other
-    → IsCut form other answers old new gives takes first last before
-cut_by {form = form} {answers = answers} {old = old} {new = new} {gives = gives} {takes = takes} {first = first} {last = last} {before = before} p e =
-    subst (λ f. IsCut form f answers old new gives takes first last before) e p
+    → IsCut form fault bodiless answers old new gives takes first last before → fault ≡ other
+    → IsCut form other bodiless answers old new gives takes first last before
+cut_by {form = form} {bodiless = bodiless} {answers = answers} {old = old} {new = new} {gives = gives} {takes = takes} {first = first} {last = last} {before = before} p e =
+    subst (λ f. IsCut form f bodiless answers old new gives takes first last before) e p
 
 -- a fault of the line broke the talk off
 pub breaks : {form : RefusalForm} {H : Type 0} {answers : H → Request → Response → H → Type 0} {old new : H} {fault : EdgeFault} {read : List ℕ}
@@ -229,10 +229,11 @@ breaks written missing line t = (
 )
 
 -- after want of memory this much was written of the reply that says so
-pub tells : (form : RefusalForm) {H : Type 0} {answers : H → Request → Response → H → Type 0} {old new : H} {fault : EdgeFault} {read written : List ℕ}
-    (front missing : List ℕ) → fault ≢ ReadFailed → no_memory_text form ≡ front ++ missing → (fault ≡ OutOfMemory → missing ≡ [])
-    → Talks form answers (Lacks answers) old read new written → Begins form fault answers old read new (written ++ front)
-tells form {written = written} front missing no_read parts whole t = (
+pub tells : (form : RefusalForm) (bodiless : Bool) {H : Type 0} {answers : H → Request → Response → H → Type 0} {old new : H} {fault : EdgeFault} {read written : List ℕ}
+    (front missing : List ℕ) → fault ≢ ReadFailed → no_memory_text form bodiless ≡ front ++ missing → (fault ≡ OutOfMemory → missing ≡ [])
+    → Talks form answers (λ mid rest last_state text. Lacks answers mid rest last_state bodiless text) old read new written
+    → Begins form fault answers old read new (written ++ front)
+tells form bodiless {written = written} front missing no_read parts whole t = (
   missing,
   record {
     exchanges = t.exchanges;
@@ -240,12 +241,12 @@ tells form {written = written} front missing no_read parts whole t = (
     reads = t.reads;
     mid = t.mid;
     runs = t.runs;
-    last = t.last ++ no_memory_text form;
-    due = lacking t.last no_read t.due;
+    last = t.last ++ no_memory_text form bodiless;
+    due = lacking t.last bodiless no_read t.due;
     writes = append_assoc written front missing
         ∙ (ap (λ v. written ++ v) (sym parts)
-        ∙ (ap (λ v. v ++ no_memory_text form) t.writes
-        ∙ append_assoc (told form t.exchanges) t.last (no_memory_text form)));
+        ∙ (ap (λ v. v ++ no_memory_text form bodiless) t.writes
+        ∙ append_assoc (told form t.exchanges) t.last (no_memory_text form bodiless)));
   },
   whole,
 )

@@ -105,9 +105,9 @@ refused_with form status message = record {
 abbrev pub out_of_memory : RefusalForm → Response
 out_of_memory form = refused_with form 503 (codes "out of memory")
 
--- its bytes where the connection closes after it, as they are written where the request is not known
-abbrev pub no_memory_text : RefusalForm → List ℕ
-no_memory_text form = plain_text false true (out_of_memory form)
+-- its bytes where the connection closes after it
+abbrev pub no_memory_text : RefusalForm → Bool → List ℕ
+no_memory_text form bodiless = plain_text bodiless true (out_of_memory form)
 
 -- a 503 without a body stands for it, so that it takes no memory to ask for it
 abbrev pub is_for_no_memory : Response → Bool

@@ -10,6 +10,7 @@ use Rattle.http_edge.specs.Fields.{Single as SingleData, absent, one, repeated}
 use Rattle.http_edge.specs.declared.head.Head.{Head}
 use Rattle.http_edge.specs.declared.head.HeadProgress.{HeadProgress}
 use Rattle.http_edge.specs.declared.head.HeadProgress.TheVariants.{Whole, More, TooMany, Refuse}
+use Rattle.http_edge.specs.declared.head.HeadProgress.TheVariants as Progress
 use Rattle.http_edge.specs.declared.head.BodyKind.{BodyKind}
 use Rattle.http_edge.specs.declared.head.BodyKind.TheVariants.{Sized, Chunks}
 use Rattle.http_edge.specs.declared.body.BodyRead.{BodyRead}
@@ -79,6 +80,8 @@ IsHeadProgress bytes (Whole head) = (h : RequestHead) × IsHead bytes head h
 IsHeadProgress bytes More = HasNoRequest bytes × MayBecomeRequest bytes
 IsHeadProgress bytes TooMany = HasNoRequest bytes × MayBecomeRequest bytes × (max_fields + 1 < head_lines bytes)
 IsHeadProgress bytes (Refuse status bodiless) = RefusesHead bytes bodiless status
+IsHeadProgress bytes (Progress.OutOfMemory bodiless) =
+    (h : RequestHead) × (after : List ℕ) × HasHead bytes h after × (bodiless ≡ is_bodiless h)
 
 -- what is kept of a body: all of it where it is wanted, and nothing where it isn't
 abbrev pub kept_if : Bool → List ℕ → List ℕ
@@ -223,18 +226,26 @@ BreaksOff form answers old new gives takes first last = (read : List ℕ) × (wr
     × Moves gives takes first last read written
     × (missing : List ℕ) × Talks form answers (Due form answers) old read new (written ++ missing)
 
--- want of memory ended it, and nothing was said of that
-pub record IsShort {H : Type 0} (answers : H → Request → Response → H
+-- want of memory ended it, nothing was said of that, and what says it has a body or not
+pub record IsShort {H : Type 0} (bodiless : Bool) (answers : H → Request → Response → H
     → Type 0) (old new : H) {L : Type 0} (gives takes : L → L → List ℕ → Type 0) (first last : L) (before : List ℕ)
     : Type 0 where
   pub read : List ℕ
   pub written : List ℕ
   pub moves : Moves gives takes first last read written
-  pub lacks : Lacks answers old (before ++ read) new written
+  pub lacks : Lacks answers old (before ++ read) new bodiless written
+
+-- the same of a whole talk
+abbrev pub StopsShort : RefusalForm → Bool → {H : Type 0} → (H → Request → Response → H → Type 0) → (old new : H)
+    → {L : Type 0} → (gives takes : L → L → List ℕ → Type 0) → (first last : L) → Type 0
+StopsShort form bodiless answers old new gives takes first last = (read : List ℕ) × (written : List ℕ)
+    × Moves gives takes first last read written
+    × Talks form answers (λ mid rest last_state text. Lacks answers mid rest last_state bodiless text)
+    old read new written
 
 -- this fault ended it
-pub record IsCut (form : RefusalForm) {H : Type 0} (fault : EdgeFault) (answers : H → Request → Response → H
-    → Type 0) (old new : H) {L : Type 0} (gives takes : L → L → List ℕ → Type 0) (first last : L) (before : List ℕ)
-    : Type 0 where
+pub record IsCut (form : RefusalForm) {H : Type 0} (fault : EdgeFault) (bodiless : Bool)
+    (answers : H → Request → Response → H → Type 0) (old new : H) {L : Type 0} (gives takes : L → L → List ℕ → Type 0)
+    (first last : L) (before : List ℕ) : Type 0 where
   pub broken : fault ≢ OutOfMemory → IsBrokenOff form answers old new gives takes first last before
-  pub short : fault ≡ OutOfMemory → IsShort answers old new gives takes first last before
+  pub short : fault ≡ OutOfMemory → IsShort bodiless answers old new gives takes first last before

@@ -1,14 +1,14 @@
 //! The loop over messages.
 ghost use Rattle.std.specs.Prelude.{◌≡◌, ◌≢◌, ℕ, ◌+◌, ◌<◌, ◌≤◌, List, [], ◌++◌, length, map, if◌then◌else◌, IfOk, IfErr, IfSome, OnOk, OnErr, Some, None, true, false, Ok, Err, vec_capacity, is_none};
-ghost use Rattle.httparse.specs.Grammar.{RequestHead};
-ghost use Rattle.http_edge.specs.Talk.{Converses, Talks, Begins, Lacks, head_lines};
+ghost use Rattle.httparse.specs.Grammar.{RequestHead, HasNoRequest};
+ghost use Rattle.http_edge.specs.Talk.{Converses, Begins, head_lines};
 ghost use Rattle.http_edge.specs.Reply.{refusal_text, reply_text, continue_text, is_for_no_memory};
 ghost use Rattle.http_edge.specs.Message.{Message, Settles, closes, max_fields, max_head, with_body};
 ghost use Rattle.http_edge.specs.Limits.{part_room};
 ghost use Rattle.http_line.specs.Line.{Moves};
 ghost use Rattle.http_edge.specs.Steps.{work, HasFailed};
 ghost use Rattle.http_edge.specs.Seen.{seen, response_of};
-ghost use Rattle.http_edge.specs.Stages.{IsHeadProgress, IsMessageOf, kept_if, StaysOpen, IsOver, IsCut, RepliesWhole, RepliesInPart, RepliesUnwritten, BreaksOff};
+ghost use Rattle.http_edge.specs.Stages.{IsHeadProgress, IsMessageOf, kept_if, StaysOpen, IsOver, IsCut, RepliesWhole, RepliesInPart, RepliesUnwritten, BreaksOff, StopsShort};
 ghost use Rattle.http_edge.specs.declared.wire.EdgeFault.TheVariants.{OutOfMemory};
 
 use crate::body::{BodyRead, read_body};
@@ -33,7 +33,8 @@ pub fn connection_buffer(alloc: Global) -> Result<Vec<u8>, AllocError>
 
 /// Reads messages and writes the handler's replies, until the connection is to close, a message is bad, or the input
 /// ends. What the buffer has from the connection before is let go. Where memory is refused, the client is told so by a
-/// 503 from constant bytes, once all that was taken for its message is given back, and the connection is to close.
+/// 503 from constant bytes, once all that was taken for its message is given back, and the connection is to close. That
+/// reply has no body where the head was read and its method is HEAD.
 pub fn serve<T: Threads + Sync, L: Line, H: Handler>(
     rt: &T,
     alloc: Global,
@@ -54,10 +55,11 @@ pub fn serve<T: Threads + Sync, L: Line, H: Handler>(
         → HasFailed (L.failed line.old) (L.failed line.new) }
 {
     buffer.clear();
-    match converse(rt, alloc, line, handler, buffer) {
+    let mut bodiless = false;
+    match converse(rt, alloc, line, handler, buffer, &mut bodiless) {
         Ok(()) => Ok(()),
         Err(EdgeFault::OutOfMemory) => {
-            send(line, no_memory_bytes(H::refusals(), true, false))?;
+            send(line, no_memory_bytes(H::refusals(), true, bodiless))?;
             Err(EdgeFault::OutOfMemory)
         }
         Err(EdgeFault::ReadFailed) => Err(EdgeFault::ReadFailed),
@@ -66,13 +68,14 @@ pub fn serve<T: Threads + Sync, L: Line, H: Handler>(
 }
 
 /// Reads messages and writes the handler's replies, until the connection is to close, a message is bad, or the input
-/// ends. Where memory is refused, nothing is said of that.
+/// ends. Where memory is refused, nothing is said of that: `bodiless` tells whether the reply that says so has no body.
 fn converse<T: Threads + Sync, L: Line, H: Handler>(
     rt: &T,
     alloc: Global,
     line: &mut L,
     handler: &mut H,
     buffer: &mut Vec<u8>,
+    bodiless: &mut bool,
 ) -> Result<(), EdgeFault>
     requires { buffer.old.items ≡ [] }
     ensures talk { OnOk result (Converses H.refusals H.answers handler.old handler.new
@@ -80,9 +83,8 @@ fn converse<T: Threads + Sync, L: Line, H: Handler>(
     ensures broken { IfErr result (λ fault. fault ≢ OutOfMemory
         → BreaksOff H.refusals H.answers handler.old handler.new L.gives L.takes
         line.old line.new) }
-    ensures short { result ≡ Err OutOfMemory → (read : List ℕ) × (written : List ℕ)
-        × Moves L.gives L.takes line.old line.new read written
-        × Talks H.refusals H.answers (Lacks H.answers) handler.old read handler.new written }
+    ensures short { result ≡ Err OutOfMemory → StopsShort H.refusals bodiless.new H.answers
+        handler.old handler.new L.gives L.takes line.old line.new }
     ensures unfailed { result ≡ Err EdgeFault.OutOfMemory → L.failed line.new ≡ L.failed line.old }
     ensures read { result ≡ Err EdgeFault.ReadFailed
         → HasFailed (L.failed line.old) (L.failed line.new) }
@@ -90,11 +92,12 @@ fn converse<T: Threads + Sync, L: Line, H: Handler>(
         → HasFailed (L.failed line.old) (L.failed line.new) }
 {
     let mut room: Room = [0u8; 8192];
-    'messages: while exchange(rt, alloc, line, handler, &mut room, buffer)? {}
+    'messages: while exchange(rt, alloc, line, handler, &mut room, buffer, bodiless)? {}
     Ok(())
 }
 
-/// One message, and whether the connection goes on after it.
+/// One message, and whether the connection goes on after it. Where memory is refused, `bodiless` tells whether the
+/// reply that says so has no body.
 fn exchange<T: Threads + Sync, L: Line, H: Handler>(
     rt: &T,
     alloc: Global,
@@ -102,6 +105,7 @@ fn exchange<T: Threads + Sync, L: Line, H: Handler>(
     handler: &mut H,
     room: &mut Room,
     buffer: &mut Vec<u8>,
+    bodiless: &mut bool,
 ) -> Result<bool, EdgeFault>
     ensures stays_open { result ≡ Ok true → StaysOpen H.refusals H.answers handler.old
         handler.new L.gives L.takes line.old line.new buffer.old.items
@@ -109,8 +113,8 @@ fn exchange<T: Threads + Sync, L: Line, H: Handler>(
     ensures closes { result ≡ Ok false → IsOver H.refusals H.answers handler.old
         handler.new L.gives L.takes line.old line.new (L.ends line.old < L.ends
         line.new) buffer.old.items }
-    ensures on_error { IfErr result (λ fault. IsCut H.refusals fault H.answers handler.old
-        handler.new L.gives L.takes line.old line.new buffer.old.items) }
+    ensures on_error { IfErr result (λ fault. IsCut H.refusals fault bodiless.new H.answers
+        handler.old handler.new L.gives L.takes line.old line.new buffer.old.items) }
     ensures work { result ≡ Ok true → work (L.reads_left line.new) buffer.new.items < work
         (L.reads_left line.old) buffer.old.items }
     ensures ends { L.ends line.old ≤ L.ends line.new }
@@ -121,17 +125,29 @@ fn exchange<T: Threads + Sync, L: Line, H: Handler>(
     ensures write { result ≡ Err EdgeFault.WriteFailed
         → HasFailed (L.failed line.old) (L.failed line.new) }
 {
+    *bodiless = false;
     match read_head(alloc, line, room, buffer)? {
         HeadProgress::More => Ok(false),
         HeadProgress::TooMany => {
             refuse(alloc, line, H::refusals(), 431, false)?;
             Ok(false)
         }
-        HeadProgress::Refuse { status, bodiless } => {
-            refuse(alloc, line, H::refusals(), status, bodiless)?;
+        HeadProgress::Refuse {
+            status,
+            bodiless: is_bodiless,
+        } => {
+            *bodiless = is_bodiless;
+            refuse(alloc, line, H::refusals(), status, is_bodiless)?;
             Ok(false)
         }
+        HeadProgress::OutOfMemory {
+            bodiless: is_bodiless,
+        } => {
+            *bodiless = is_bodiless;
+            Err(EdgeFault::OutOfMemory)
+        }
         HeadProgress::Whole(head) => {
+            *bodiless = head.bodiless;
             let goes = serve_message(rt, alloc, line, handler, room, buffer, head)?;
             Ok(goes)
         }
@@ -155,6 +171,9 @@ fn read_head<L: Line>(
         → head_lines buffer.new.items ≤ max_fields + 1 }
     ensures on_error { OnErr result ((read : List ℕ)
         × Moves L.gives L.takes line.old line.new read []) }
+    ensures lacks { result ≡ Err OutOfMemory → (read : List ℕ)
+        × Moves L.gives L.takes line.old line.new read []
+        × (buffer.new.items ≡ buffer.old.items ++ read) × HasNoRequest buffer.new.items }
     ensures work { OnOk result (work (L.reads_left line.new) buffer.new.items ≤ work
         (L.reads_left line.old) buffer.old.items) }
     ensures ends { L.ends line.old ≤ L.ends line.new }
@@ -172,7 +191,8 @@ fn read_head<L: Line>(
     }
 }
 
-/// Looks for a head where it is time to, and reads where none is there.
+/// Looks for a head where it is time to, and reads where none is there. Room is made before bytes are read: where it is
+/// refused, what there is is looked at once more.
 fn look<L: Line>(
     alloc: Global,
     line: &mut L,
@@ -190,6 +210,8 @@ fn look<L: Line>(
         → head_lines buffer.new.items ≤ max_fields + 1 }
     ensures on_error { OnErr result ((read : List ℕ)
         × Moves L.gives L.takes line.old line.new read []) }
+    ensures lacks { result ≡ Err OutOfMemory → Moves L.gives L.takes line.old line.new [] []
+        × (buffer.new.items ≡ buffer.old.items) × HasNoRequest buffer.new.items }
     ensures work { OnOk result (work (L.reads_left line.new) buffer.new.items ≤ work
         (L.reads_left line.old) buffer.old.items) }
     ensures less { result ≡ Ok None → work (L.reads_left line.new) buffer.new.items < work
@@ -202,15 +224,33 @@ fn look<L: Line>(
     ensures no_write { result ≢ Err EdgeFault.WriteFailed }
 {
     if watch.is_due(buffer, false) {
-        match head_at(alloc, buffer)? {
-            HeadProgress::More => {}
-            begin => return Ok(Some(begin)),
+        if let Some(begin) = head_there(alloc, buffer) {
+            return Ok(Some(begin));
+        }
+    }
+    match buffer.reserve(READ_AT_MOST) {
+        Ok(()) => {}
+        Err(AllocError) => {
+            let begin = head_there(alloc, buffer).ok_or(EdgeFault::OutOfMemory)?;
+            return Ok(Some(begin));
         }
     }
     if fill(line, buffer, &mut room[..READ_AT_MOST])? {
         return Ok(None);
     }
-    Ok(Some(head_at(alloc, buffer)?))
+    Ok(Some(head_at(alloc, buffer)))
+}
+
+/// What the bytes begin with, where they aren't less than a head.
+fn head_there(alloc: Global, bytes: &[u8]) -> Option<HeadProgress>
+    ensures found { IfSome result (IsHeadProgress bytes.now) }
+    ensures whole { result ≢ Some HeadProgress.More }
+    ensures none { result ≡ None → HasNoRequest bytes.now }
+{
+    match head_at(alloc, bytes) {
+        HeadProgress::More => None,
+        begin => Some(begin),
+    }
 }
 
 /// Writes the reply to a bad message.
@@ -261,8 +301,8 @@ fn serve_message<T: Threads + Sync, L: Line, H: Handler>(
     ensures closes { result ≡ Ok false → IsOver H.refusals H.answers handler.old
         handler.new L.gives L.takes line.old line.new (L.ends line.old < L.ends
         line.new) buffer.old.items }
-    ensures on_error { IfErr result (λ fault. IsCut H.refusals fault H.answers handler.old
-        handler.new L.gives L.takes line.old line.new buffer.old.items) }
+    ensures on_error { IfErr result (λ fault. IsCut H.refusals fault head.bodiless H.answers
+        handler.old handler.new L.gives L.takes line.old line.new buffer.old.items) }
     ensures work { result ≡ Ok true → work (L.reads_left line.new) buffer.new.items < work
         (L.reads_left line.old) buffer.old.items }
     ensures ends { L.ends line.old ≤ L.ends line.new }

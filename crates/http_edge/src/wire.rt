@@ -1,5 +1,5 @@
 //! Reading into a buffer, and writing.
-ghost use Rattle.std.specs.Prelude.{◌≡◌, ◌≢◌, ℕ, ◌+◌, ◌-◌, ◌/◌, ◌<◌, ◌≤◌, List, [], ◌++◌, length, drop, IfOk, OnOk, OnErr, IsTrue, true, false, Ok, Err};
+ghost use Rattle.std.specs.Prelude.{◌≡◌, ◌≢◌, ℕ, ◌+◌, ◌-◌, ◌/◌, ◌<◌, ◌≤◌, List, [], ◌++◌, length, drop, IfOk, OnOk, OnErr, IsTrue, true, false, Ok, Err, vec_len, vec_capacity};
 ghost use Rattle.httparse.specs.Pieces.{is_newline};
 ghost use Rattle.http_edge.specs.Chunks.{has_line_end};
 ghost use Rattle.http_edge.specs.Limits.{max_part, max_read};
@@ -80,6 +80,8 @@ pub(crate) fn fill<L: Line>(
     ensures ends { L.ends line.old ≤ L.ends line.new }
     ensures kept { OnOk result (L.failed line.new ≡ L.failed line.old) }
     ensures unfailed { result ≡ Err EdgeFault.OutOfMemory → L.failed line.new ≡ L.failed line.old }
+    ensures roomy { vec_len buffer.old + length room.old ≤ vec_capacity buffer.old
+        → result ≢ Err EdgeFault.OutOfMemory }
     ensures failed { result ≡ Err EdgeFault.ReadFailed
         → HasFailed (L.failed line.old) (L.failed line.new) }
     ensures no_write { result ≢ Err EdgeFault.WriteFailed }

@@ -50,13 +50,13 @@ limit_in (Some behind) = number_of (skip_spaces behind)
 abbrev pub open_files : List ℕ → Option ℕ
 open_files limits = limit_in (behind_title limits)
 
--- what a port for operators with so many threads has open: its listener, the file of what the system tells of the
+-- what an admin port with so many threads has open: its listener, the file of what the system tells of the
 -- process, and a connection of each
 abbrev pub port_needs : Option ℕ → ℕ
 port_needs None = 0
 port_needs (Some admins) = admins + 2
 
--- a descriptor for each connection of a receiver or a sender, and those of a port for operators; three standard ones,
+-- a descriptor for each connection of a receiver or a sender, and those of an admin port; three standard ones,
 -- the listener, and one of who reads the input, for a file that a line names or a connection that wakes a receiver
 abbrev pub needed : ThreadCounts → ℕ
 needed threads = threads.receivers + threads.senders + port_needs threads.admins + 5

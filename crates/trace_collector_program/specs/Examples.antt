@@ -67,6 +67,7 @@ pub record Arguments : Type 0 where
   pub all : served_with (codes "--back-end-timeout" ∷ codes "4294967295" ∷ codes "--audit" ∷ codes "--senders" ∷ codes "4096"
       ∷ codes "--client-timeout" ∷ codes "1" ∷ codes "--verbose" ∷ codes "--request-timeout" ∷ codes "20"
       ∷ codes "--connections" ∷ codes "065536" ∷ codes "--admin-token-file" ∷ codes "token"
+      ∷ codes "--body-memory" ∷ codes "9999999999999999999"
       ∷ codes "--admin" ∷ codes "[::1]:9464" ∷ [])
       ≡ Some (serve path (record {
         audit = true;
@@ -76,6 +77,7 @@ pub record Arguments : Type 0 where
         client_timeout = Some 1;
         request_timeout = Some 20;
         back_end_timeout = Some 4294967295;
+        body_memory = Some 9999999999999999999;
         admin = Some (codes "[::1]:9464");
         admin_token_file = Some (codes "token");
       }))
@@ -87,6 +89,12 @@ pub record Arguments : Type 0 where
   pub too_long : served_with (codes "--client-timeout" ∷ codes "4294967296" ∷ []) ≡ None
   pub too_long_request : served_with (codes "--request-timeout" ∷ codes "4294967296" ∷ []) ≡ None
   pub too_long_back_end : served_with (codes "--back-end-timeout" ∷ codes "4294967296" ∷ []) ≡ None
+  pub least_memory : served_with (codes "--body-memory" ∷ codes "20971520" ∷ [])
+      ≡ Some (serve path (record none_given { body_memory = Some 20971520 }))
+  pub too_little_memory : served_with (codes "--body-memory" ∷ codes "20971519" ∷ []) ≡ None
+  pub too_much_memory : served_with (codes "--body-memory" ∷ codes "10000000000000000000" ∷ []) ≡ None
+  pub memory_twice : served_with (codes "--body-memory" ∷ codes "20971520" ∷ codes "--body-memory" ∷ codes "20971520" ∷ [])
+      ≡ None
   pub signed : served_with (codes "--senders" ∷ codes "+1" ∷ []) ≡ None
   pub no_digits : served_with (codes "--senders" ∷ [] ∷ []) ≡ None
   pub joined : served_with (codes "--senders=1" ∷ []) ≡ None

@@ -19,3 +19,4 @@ pub record IsAsked (given : OptionsData) (keys : HashKeys) (asked : ServiceOptio
   pub client_timeout : option_map as_nanos asked.client_timeout ≡ nanos_of given.client_timeout
   pub request_timeout : option_map as_nanos asked.request_timeout ≡ nanos_of given.request_timeout
   pub back_end_timeout : option_map as_nanos asked.back_end_timeout ≡ nanos_of given.back_end_timeout
+  pub body_memory : asked.body_memory ≡ given.body_memory

@@ -1,7 +1,7 @@
 -- What the program's arguments ask for. This project's own rule (docs/OPERATING.md).
 use Rattle.std.specs.Prelude.{ℕ, List, [], ◌∷◌, codes, Bool, true, false, ◌&&◌, ◌||◌, not, ◌==◌, nat_le, nat_lt, length, Option, Some, None, option_map, option_and_then, is_none, if◌then◌else◌}
 use Rattle.std.specs.Str.{bytes_eq}
-use Rattle.replay_script.specs.Word.{number_of, tested}
+use Rattle.replay_script.specs.Word.{most_body_bytes, number_of, tested}
 use Rattle.trace_collector_program.specs.declared.task.ServeOptions.{ServeOptions}
 use Rattle.trace_collector_program.specs.declared.task.Task.{Task}
 use Rattle.trace_collector_program.specs.declared.task.Task.TheVariants.{Replay, Serve, Check, Help, Version}
@@ -15,6 +15,7 @@ pub record OptionsData : Type 0 where
   pub client_timeout : Option ℕ
   pub request_timeout : Option ℕ
   pub back_end_timeout : Option ℕ
+  pub body_memory : Option ℕ
   pub admin : Option (List ℕ)
   pub admin_token_file : Option (List ℕ)
 
@@ -28,6 +29,7 @@ options_view o = record {
   client_timeout = o.client_timeout;
   request_timeout = o.request_timeout;
   back_end_timeout = o.back_end_timeout;
+  body_memory = o.body_memory;
   admin = option_map (λ text. text.now) o.admin;
   admin_token_file = option_map (λ text. text.now) o.admin_token_file;
 }
@@ -70,6 +72,7 @@ none_given = record {
   client_timeout = None;
   request_timeout = None;
   back_end_timeout = None;
+  body_memory = None;
   admin = None;
   admin_token_file = None;
 }
@@ -77,6 +80,10 @@ none_given = record {
 -- the number from 1 to `most` that a word writes in decimal digits
 abbrev pub up_to : ℕ → List ℕ → Option ℕ
 up_to most word = tested (λ number. nat_le 1 number && nat_le number most) (number_of word)
+
+-- the number of at least so many that a word writes in decimal digits
+abbrev pub at_least : ℕ → List ℕ → Option ℕ
+at_least least word = tested (λ number. nat_le least number) (number_of word)
 
 -- the value of an option that may stand once
 abbrev pub once : Option ℕ → Option ℕ → Option ℕ
@@ -106,6 +113,13 @@ with_text given name value =
     Some (record given { admin_token_file = Some value })
     else None
 
+-- what is given with another option more whose value is so many bytes, which may stand once: the longest body has room
+abbrev pub with_bytes : OptionsData → List ℕ → List ℕ → Option OptionsData
+with_bytes given name value =
+    if bytes_eq name (codes "--body-memory") && is_none given.body_memory then
+    option_map (λ n. record given { body_memory = Some n }) (at_least most_body_bytes value)
+    else with_text given name value
+
 -- what is given with another option more and its value: so many connections and senders, and milliseconds
 abbrev pub with_value : OptionsData → List ℕ → List ℕ → Option OptionsData
 with_value given name value =
@@ -120,7 +134,7 @@ with_value given name value =
     else if bytes_eq name (codes "--back-end-timeout") then
     option_map (λ n. record given { back_end_timeout = Some n })
     (once given.back_end_timeout (up_to most_millis value))
-    else with_text given name value
+    else with_bytes given name value
 
 -- What is given with all options that these words spell, in any order: first of all the value of the option of this
 -- name, where one is awaited.

@@ -1,4 +1,4 @@
--- The token that whoever looks after a service has to have. A bearer token is of few characters, with `=` at its end
+-- The token that the admin port asks for. A bearer token is of few characters, with `=` at its end
 -- alone (RFC 6750, 2.1, `b64token`): so each client can send it, and no other text can be meant.
 use Rattle.std.specs.Prelude.{ℕ, List, [], ◌∷◌, length, Bool, true, false, ◌&&◌, ◌||◌, not, ◌==◌, nat_le, if◌then◌else◌}
 use Rattle.std.specs.Char.{is_ascii_alphanumeric}

@@ -1,4 +1,4 @@
-//! Where the service is looked after.
+//! The service's admin port.
 
 ghost use Rattle.std.specs.Prelude.{◌≡◌, false, IfErr, IfOk, IsTrue};
 ghost use Rattle.trace_collector_program.specs.Fault.{IsOutside};
@@ -24,7 +24,7 @@ const TOKEN_MAY_BE: &str =
 /// Where Linux tells a process of itself.
 const STATUS: &str = "/proc/self/status";
 
-/// Where the service is looked after.
+/// Where the admin port listens, and the token that is asked for there.
 #[derive(Drop)]
 pub struct AdminDoor {
     pub listener: TcpListener,
@@ -34,7 +34,7 @@ pub struct AdminDoor {
     pub status: Option<Mutex<File>>,
 }
 
-/// Where the options ask that the service is looked after, if they do. Without a token that is an address which this
+/// The admin port that the options ask for, if they do. Without a token that is an address which this
 /// machine alone reaches.
 pub fn admin_door<R>(
     rt: &R,

@@ -86,7 +86,7 @@ fn open_files(limits: &[u8]) -> Option<u32>
 pub struct ThreadCounts {
     pub receivers: u32,
     pub senders: u32,
-    /// Those of the port for operators, if there is one.
+    /// Those of the admin port, if there is one.
     pub admins: Option<u32>,
 }
 

@@ -78,7 +78,7 @@ impl<R: Eprint> Course<'_, R> {
                 eprintln!(self.rt; "serving at {address}")?;
                 if let Some(door) = self.door {
                     let address = door.listener.local_addr()?;
-                    eprintln!(self.rt; "looked after at {address}")?;
+                    eprintln!(self.rt; "admin port at {address}")?;
                 }
                 Ok(())
             }
@@ -199,7 +199,7 @@ where
     served
 }
 
-/// Serves until whoever looks after it ends it.
+/// Serves until it is told at the admin port to end.
 fn serve_at_desk<R, W, L>(
     launch: Launch<'_, R>,
     door: &AdminDoor,
@@ -260,7 +260,7 @@ where
     run_service(&start, launch.settings, console)
 }
 
-/// Where the service is looked after, at this door and this desk.
+/// The admin port of this door and this desk.
 fn port_at<'x>(door: &'x AdminDoor, desk: &'x AdminDesk) -> AdminPort<'x> {
     let token = match &door.token {
         Some(token) => Some(token.as_slice()),
@@ -304,6 +304,7 @@ fn service_options(options: &ServeOptions<'_>, keys: HashKeys) -> ServiceOptions
         client_timeout: duration(options.client_timeout),
         request_timeout: duration(options.request_timeout),
         back_end_timeout: duration(options.back_end_timeout),
+        body_memory: options.body_memory,
     }
 }
 

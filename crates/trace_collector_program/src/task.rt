@@ -4,7 +4,7 @@ ghost use Rattle.std.specs.Prelude.{◌≡◌, map, option_map, string_bytes, No
 ghost use Rattle.std.specs.Char.{is_ascii_digit};
 ghost use Rattle.std.specs.List.{list_all};
 ghost use Rattle.replay_script.specs.Word.{number_of};
-ghost use Rattle.trace_collector_program.specs.Task.{is_flag, is_option, none_given, on_file, once, option_of, options_from, options_view, task_of, task_view, up_to, with_flag, with_text, with_value};
+ghost use Rattle.trace_collector_program.specs.Task.{at_least, is_flag, is_option, none_given, on_file, once, option_of, options_from, options_view, task_of, task_view, up_to, with_bytes, with_flag, with_text, with_value};
 
 /// What `--help` prints.
 pub const HELP: &str =
@@ -15,7 +15,7 @@ usage: trace_collector replay SETTINGS
        trace_collector check SETTINGS
        trace_collector serve SETTINGS [--audit] [--verbose] [--connections N] [--senders N]
                        [--client-timeout MS] [--request-timeout MS] [--back-end-timeout MS]
-                       [--admin HOST:PORT [--admin-token-file FILE]]
+                       [--body-memory BYTES] [--admin HOST:PORT [--admin-token-file FILE]]
        trace_collector --help | --version
 
   replay SETTINGS  does the script on standard input, a command a line, under the settings in that
@@ -47,7 +47,9 @@ Behind `serve SETTINGS`, in any order and each once at most:
   --back-end-timeout MS  an attempt to which no whole answer of the back end has come within MS
                          milliseconds, 1 to 4294967295, has failed, and the batch is tried again;
                          else it is waited for
-  --admin HOST:PORT      answers there whoever looks after it: GET /, /metrics, /healthz, /readyz,
+  --body-memory BYTES    answers 503 to a post whose body has more than BYTES together with those
+                         that other connections hold, 20971520 and more; else all are held
+  --admin HOST:PORT      opens the admin port, which answers GET /, /metrics, /healthz, /readyz,
                          /tenants and /tenants/NAME, POST /tenants and /drain, DELETE /tenants/NAME;
                          then standard input isn't read, and POST /drain is its end
   --admin-token-file FILE
@@ -89,6 +91,9 @@ const MOST_CONNECTIONS: u32 = 65_536;
 /// So many senders can be asked for.
 const MOST_SENDERS: u32 = 4_096;
 
+/// So many bytes can be asked for at least, which the longest body has.
+const LEAST_BODY_MEMORY: u64 = 20_971_520;
+
 /// A number has at most so many digits, so that it is below 2^64.
 const MAX_DIGITS: usize = 19;
 
@@ -101,6 +106,7 @@ const NONE_GIVEN: ServeOptions<'static> = ServeOptions {
     client_timeout: None,
     request_timeout: None,
     back_end_timeout: None,
+    body_memory: None,
     admin: None,
     admin_token_file: None,
 };
@@ -122,9 +128,11 @@ pub struct ServeOptions<'a> {
     pub request_timeout: Option<u32>,
     /// So many milliseconds, from 1, a whole attempt at a back end may take.
     pub back_end_timeout: Option<u32>,
-    /// It is looked after at this address.
+    /// So many bytes, from 20,971,520, clients' bodies that are on their way may have together.
+    pub body_memory: Option<u64>,
+    /// The admin port has this address.
     pub admin: Option<&'a str>,
-    /// Whoever looks after it has to have the token in this file.
+    /// The admin port asks for the token in this file.
     pub admin_token_file: Option<&'a str>,
 }
 
@@ -289,6 +297,22 @@ fn with_value<'a>(given: ServeOptions<'a>, name: &str, value: &'a str) -> Option
             ..given
         })
     } else {
+        with_bytes(given, name, value)
+    }
+}
+
+/// What is given with another option more whose value is so many bytes, which may stand once too.
+fn with_bytes<'a>(given: ServeOptions<'a>, name: &str, value: &'a str) -> Option<ServeOptions<'a>>
+    ensures { option_map options_view result ≡ with_bytes (options_view given.entry) name.now
+        value.entry.now }
+{
+    if name == "--body-memory" && given.body_memory.is_none() {
+        let body_memory = Some(at_least(LEAST_BODY_MEMORY, value)?);
+        Some(ServeOptions {
+            body_memory,
+            ..given
+        })
+    } else {
         with_text(given, name, value)
     }
 }
@@ -332,6 +356,17 @@ fn up_to(most: u32, word: &str) -> Option<u32>
         return None;
     }
     Some(number as u32)
+}
+
+/// The number of at least so many that a word writes.
+fn at_least(least: u64, word: &str) -> Option<u64>
+    ensures { result ≡ at_least least word.now }
+{
+    let number = number(word)?;
+    if number < least {
+        return None;
+    }
+    Some(number)
 }
 
 /// The number that a word writes in 1 to 19 decimal digits.

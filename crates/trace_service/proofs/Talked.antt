@@ -1,7 +1,7 @@
 -- What came of a connection, whether it was broken off or not.
 use Rattle.std.proofs.Common.{◌≡◌, ◌⊎◌, ℕ, List, [], ◌∷◌, Bool, Result, Ok, Err, OnOk, IfErr, inl, inr, subst, sym}
 use Rattle.http_edge.specs.Message.{Request, Response, request_of}
-use Rattle.http_edge.specs.Talk.{Talk, Begins, Exchange, Runs, Ends, waits, refuses, closing, Due, nothing, interim, refusing, replying, Lacks, at_front, at_body, at_reply, IsDue, breaking, lacking}
+use Rattle.http_edge.specs.Talk.{Talk, Begins, Exchange, Runs, Ends, waits, refuses, closing, Due, nothing, interim, refusing, replying, Lacks, at_front, behind_head, at_refusal, at_body, at_reply, IsDue, breaking, lacking}
 use Rattle.http_edge.specs.declared.message.RefusalForm.{RefusalForm}
 use Rattle.http_edge.specs.declared.wire.EdgeFault.{EdgeFault}
 use Rattle.trace_service.specs.Receiving.{IsTalk}
@@ -38,14 +38,16 @@ module _ {H : Type 0} (answers : H → Request → Response → H → Type 0) (K
     due_keep (refusing text due same) = stays old new same
     due_keep (replying e after message answer) = each old (request_of e.message) e.reply new answer
 
-    lacks_keep : {text : List ℕ} → Lacks answers old rest new text → Keeps old new
-    lacks_keep (at_front same) = stays old new same
+    lacks_keep : {bodiless : Bool} {text : List ℕ} → Lacks answers old rest new bodiless text → Keeps old new
+    lacks_keep (at_front lack same) = stays old new same
+    lacks_keep (behind_head h after has same) = stays old new same
+    lacks_keep (at_refusal bodiless status bad same) = stays old new same
     lacks_keep (at_body h may same) = stays old new same
     lacks_keep (at_reply e after message answer some) = each old (request_of e.message) e.reply new answer
 
     fault_keeps : {form : RefusalForm} {fault : EdgeFault} {text : List ℕ} → IsDue form fault answers old rest new text → Keeps old new
     fault_keeps (breaking text other due) = due_keep due
-    fault_keeps (lacking text other lacks) = lacks_keep lacks
+    fault_keeps (lacking text bodiless other lacks) = lacks_keep lacks
 
   one_keeps : {form : RefusalForm} (old new : H) (read written : List ℕ)
       → ((over : Bool) × Talk form answers old read new written over) ⊎ ((fault : EdgeFault) × Begins form fault answers old read new written)

@@ -4,7 +4,7 @@ use Rattle.trace_service.specs.declared.workers.Role.{Role}
 use Rattle.trace_service.specs.declared.workers.Role.TheVariants.{Turner, Sender, Admin, Receiver}
 
 -- what the thread of this number does, and at which shard's context: a turner for each shard, then so many senders, so
--- many for whoever looks after the service, and receivers
+-- many for the admin port, and receivers
 abbrev pub place_of : ℕ → ℕ → ℕ → ℕ → Role × ℕ
 place_of shards senders admins number =
     if nat_lt number shards then (Turner, number)

@@ -117,7 +117,7 @@ left_by outcome tenant present =
     if stays outcome then present else filter (λ other. not (other.0 == tenant)) present
 
 -- A tenant was to go: it was drained, then it was seen to hold no span, then it was to retire, and what came of that
--- was written under its name. These are present then. Only a service that has a port for operators, where its end may
+-- was written under its name. These are present then. Only a service that has an admin port, where its end may
 -- be asked for meanwhile, need not have seen that it holds none.
 pub record IsRetired (port : Bool) (name : List ℕ) (present : Present) (old new : CallerState)
     (shards tenant before last : ℕ) (so_far : Output) (left : Present) (written : Output) : Type 0 where

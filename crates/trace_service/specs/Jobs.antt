@@ -60,7 +60,7 @@ pub record IsReceiver (first : SettingsData) (shards : ℕ) (fresh caller : Call
   pub runs : Through (Handles first shards) (fresh, before) handled (caller, last)
 
 -- What a thread with a seat at the lane did: a turner's work, or a sender's; or it did nothing at the lane, and no call
--- at all, or a receiver's work, or its calls asked for counters alone, where the service is looked after.
+-- at all, or a receiver's work, or its calls asked for counters alone, at the admin port.
 pub data IsThread (first : SettingsData) (shards : ℕ) (fresh caller : CallerState) (seat : SeatLists) : Type 0 where
   turner : IsTurner fresh caller seat → IsThread first shards fresh caller seat
   sender : IsSender shards fresh caller seat → IsThread first shards fresh caller seat

@@ -21,4 +21,5 @@ pub mod Shown
 pub mod Whole
 pub mod Control
 pub mod Visit
+pub mod BodyMemory
 pub mod Retried

@@ -1,4 +1,4 @@
--- What whoever looks after a service is told in few words. This project's own rule.
+-- What the admin port tells in few words. This project's own rule.
 use Rattle.std.specs.Prelude.{ℕ, List, [], ◌∷◌, ◌++◌, codes, if◌then◌else◌}
 use Rattle.std.specs.Str.{bytes_eq}
 use Rattle.admin_pages.specs.Json.{string_text}

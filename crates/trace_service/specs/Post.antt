@@ -83,11 +83,12 @@ IsSentBy (post tenant) settings before last old new shards body told =
     IsSent (section_at settings tenant) before last old new shards tenant body told
 
 -- A message is handled so, by who has a beat whose last moments these are, before and after: as settings say that came
--- of the first ones; or memory was refused for a copy of the tenant's section.
+-- of the first ones; or memory was refused, for a copy of the tenant's section, or for the body, of which nothing is
+-- kept.
 pub data IsHandled (first : SettingsData) (before last : ℕ) (old new : CallerState) (shards : ℕ) (request : Request)
     (told : Response) : Type 0 where
   handled : (now : SettingsData) → CameOf first now
       → IsSentBy (route_of (names_in now) request) now before last old new shards request.body told
       → IsHandled first before last old new shards request told
-  not_copied : last ≡ before → new ≡ old → told ≡ no_memory
+  no_room : last ≡ before → new ≡ old → told ≡ no_memory
       → IsHandled first before last old new shards request told

@@ -1,4 +1,4 @@
--- What whoever looks after a service is told, route by route, and which steps are made for it. This project's own rule.
+-- What the admin port tells, route by route, and which steps are made for it. This project's own rule.
 use Rattle.std.specs.Prelude.{◌≡◌, ◌≢◌, ◌⊎◌, ℕ, ◌%◌, Bool, ◌&&◌, List, [], ◌∷◌, ◌++◌, length, true, false, Option, Some, None, option_copied, codes, string_bytes, IsUtf8}
 use Rattle.std.specs.Borrow.{Bor}
 use Rattle.admin_page.specs.declared.page.TheConstants.{PAGE}

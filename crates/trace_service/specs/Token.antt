@@ -1,4 +1,4 @@
--- The token that a request of whoever looks after a service gives (RFC 6750), whether a page of a browser asks (the
+-- The token that a request at the admin port gives (RFC 6750), whether a page of a browser asks (the
 -- Fetch standard), and whether the request is let in.
 use Rattle.std.specs.Prelude.{ℕ, Bool, true, false, not, ◌&&◌, ◌||◌, ◌==◌, nat_le, List, [], ◌∷◌, length, take, drop, Option, Some, None, option_and_then, if◌then◌else◌, codes, bytes_eq}
 use Rattle.std.specs.List.{list_any}

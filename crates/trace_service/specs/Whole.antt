@@ -49,7 +49,7 @@ abbrev pub IsCourseIfOk : {E : Type 0} → Bool → Reads → SettingsData → P
 IsCourseIfOk port reads first present shards input fresh so_far callers written result =
     IfOk result (λ lost. IsCourse port reads first present shards input fresh (so_far, 0) callers (written, lost))
 
--- What a service did to its shards, and what it wrote, with a port for operators or without: there was a hub of the
+-- What a service did to its shards, and what it wrote, with an admin port or without: there was a hub of the
 -- settings' shards, and one of its callers, which had made no call before, read the input and wrote what its calls at
 -- these shards gave. All callers' calls at a shard are one run of it, log or not, of which each tenant was told what
 -- its pipeline alone answers to its own steps, and from its first want of memory on one history. The other callers were

@@ -1,4 +1,4 @@
-//! Who serves those that look after the service.
+//! Who serves operators at the admin port.
 
 ghost use Rattle.std.specs.Prelude.{◌≡◌, ◌%◌, ◌++◌, Option, None, length, map, option_copied, option_map, string_bytes, IfOk, IfSome, OnOk, OnErr};
 ghost use Rattle.admin_pages.specs.Figures.{tenant_of};
@@ -53,7 +53,7 @@ use tenant_shard::{Outcome, Waiting};
 /// For so many seconds is waited until a line of the input is answered.
 const LONGEST_ANSWER: u64 = 5;
 
-/// Who serves those that look after the service: by the steps of a thread's own caller, and by lines of the input.
+/// Who serves operators at the admin port: by the steps of a thread's own caller, and by lines of the input.
 #[derive(Drop)]
 pub(crate) struct AdminHandler<'c, 'h, J: Naming, R> {
     pub context: &'c mut WorkerContext<'h, J, R>,

@@ -1,4 +1,4 @@
-//! Where a service is looked after.
+//! A service's admin port.
 
 ghost use Rattle.std.specs.Prelude.{◌≡◌, is_some};
 
@@ -10,7 +10,7 @@ use std::net::TcpListener;
 use std::sync::Mutex;
 use std::time::Duration;
 
-/// So many threads serve those who look after the service, so that one that waits, for a client or for a tenant that
+/// So many threads serve operators at the admin port, so that one that waits, for a client or for a tenant that
 /// goes, holds up nobody else.
 pub const ADMINS: u32 = 8;
 
@@ -24,7 +24,7 @@ const LONGEST_REQUEST: u64 = 5;
 /// reaches the address, can have all threads hold as many. A document of settings has far fewer.
 const LARGEST_REQUEST: u64 = 1_048_576;
 
-/// Where a service is looked after: at an address of its own.
+/// A service's admin port: where it listens, and who is let in there.
 #[derive(Clone, Copy)]
 pub struct AdminPort<'a> {
     pub listener: &'a TcpListener,
@@ -38,7 +38,7 @@ pub struct AdminPort<'a> {
     pub version: &'static str,
 }
 
-/// Where a service is looked after, and who comes in there, as its threads share it.
+/// A service's admin port, and who comes in there, as its threads share it.
 #[derive(Drop)]
 pub(crate) struct AdminEntrance<'h> {
     pub port: AdminPort<'h>,
@@ -55,12 +55,12 @@ impl<'h> AdminEntrance<'h> {
         };
         AdminEntrance {
             port,
-            entrance: Entrance::to_the_end(port.listener, patience),
+            entrance: Entrance::new(port.listener, patience),
         }
     }
 }
 
-/// Where a service is looked after that has this port, if any.
+/// The entrance at this admin port, if there is one.
 pub(crate) fn admin_entrance_of<'h>(port: Option<AdminPort<'h>>) -> Option<AdminEntrance<'h>>
     ensures { is_some result ≡ is_some port.entry }
 {

@@ -17,8 +17,8 @@ use std::alloc::{AllocError, Global};
 use std::sync::Wait;
 use std::time::Clock;
 
-/// A worker for each caller: turners first, one for each shard, then senders, then those for whoever looks after the
-/// service, then receivers.
+/// A worker for each caller: turners first, one for each shard, then senders, then those of the admin
+/// port, then receivers.
 pub(crate) fn assign_threads<'h, J: Naming, R: Wait + Clock>(
     shared: &Shared<'h, J, R>,
     mut callers: Vec<Caller>,

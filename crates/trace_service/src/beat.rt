@@ -1,5 +1,6 @@
 //! The moment, pauses, and what threads tell one another of the service's course.
 
+use crate::body_memory::BodyMemory;
 use crate::gates::Gates;
 use crate::large_bodies::LargeBodies;
 use crate::last_answers::LastAnswers;
@@ -25,14 +26,20 @@ pub(crate) struct Signals {
     paces: Paces,
     reserve: Reserve,
     gates: Gates,
+    body_memory: BodyMemory,
     large_bodies: LargeBodies,
     tally: Tally,
     last_answers: LastAnswers,
 }
 
 impl Signals {
-    /// Nobody is there yet.
-    pub fn new(alloc: Global, shards: usize, senders: u32) -> Result<Signals, AllocError> {
+    /// Nobody is there yet. So many bytes of bodies may be on their way at a time.
+    pub fn new(
+        alloc: Global,
+        shards: usize,
+        senders: u32,
+        body_memory: Option<u64>,
+    ) -> Result<Signals, AllocError> {
         Ok(Signals {
             here: AtomicUsize::new(0),
             end_asked: AtomicBool::new(false),
@@ -42,6 +49,7 @@ impl Signals {
             paces: Paces::new(alloc, shards)?,
             reserve: Reserve::new(alloc),
             gates: Gates::new(alloc)?,
+            body_memory: BodyMemory::new(body_memory),
             large_bodies: LargeBodies::new(),
             tally: Tally::new(),
             last_answers: LastAnswers::new(alloc)?,
@@ -91,6 +99,11 @@ impl Signals {
         &self.gates
     }
 
+    /// Memory for bodies that are on their way.
+    pub fn body_memory(&self) -> &BodyMemory {
+        &self.body_memory
+    }
+
     /// Room for large bodies.
     pub fn large_bodies(&self) -> &LargeBodies {
         &self.large_bodies
@@ -130,12 +143,12 @@ impl Signals {
         self.end_asked.load(Ordering::SeqCst)
     }
 
-    /// No more connections are to be served.
+    /// No more spans are taken.
     pub fn close(&self) {
         self.closing.store(true, Ordering::SeqCst);
     }
 
-    /// Whether no more connections are to be served.
+    /// Whether no more spans are taken.
     pub fn is_closing(&self) -> bool {
         self.closing.load(Ordering::SeqCst)
     }

@@ -143,7 +143,8 @@ where
         }
     }
 
-    /// The tenant of a document, let in by the settings in force. Meanwhile they are locked.
+    /// The tenant of a document, let in by the settings in force. They are locked until all of the document is read:
+    /// meanwhile no message finds its tenant.
     fn newcomer(&self, text: &str) -> Result<Newcomer, SettingsFault>
         ensures on_success { IfOk result (λ newcomer. (now : SettingsData) × CameOf J.first now
             × IsNewcomer now text.now newcomer) }
@@ -198,7 +199,7 @@ where
     }
 
     /// Has the tenant of this name send what it holds, waits until that is done, lets it go, and prints what came of
-    /// it. Meanwhile no other line is answered. A service that is looked after may be told there to end before that is
+    /// it. Meanwhile no other line is answered. A service with an admin port may be told there to end before that is
     /// done: then the tenant stays. Where there is no tenant of this name nothing is done.
     pub fn retire<O: Write>(
         &mut self,
@@ -228,7 +229,7 @@ where
         write_text(output, line.as_slice(), lost);
     }
 
-    /// Waits until this tenant holds no span, or where the service is looked after until it is told there to end: else
+    /// Waits until this tenant holds no span, or with an admin port until it is told there to end: else
     /// a back end that hangs would keep all others from being drained.
     fn await_tenant(&mut self, tenant: u32, is_looked_after: bool)
         ensures empty { is_looked_after ≡ false → IsEmptyOn self.old.context.caller

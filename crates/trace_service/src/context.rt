@@ -5,6 +5,7 @@ ghost use Rattle.machine_hub.specs.Hub.{slots_of};
 ghost use Rattle.trace_service.specs.Work.{turned_of};
 
 use crate::beat::{ServiceBeat, Signals};
+use crate::body_memory::BodyClaim;
 use crate::in_force::{Destination, InForce};
 use crate::naming::Naming;
 use crate::post::{is_without_memory, post_body, refused, without_memory};
@@ -39,6 +40,8 @@ pub(crate) struct WorkerContext<'h, J: Naming, R> {
     shard: usize,
     beat: ServiceBeat<'h, R>,
     teller: Teller<'h, R>,
+    // For the body of the message that comes, as a receiver.
+    claim: BodyClaim<'h>,
     of: PhantomData<J>,
     ghost hub_is: { hub.now ≡ J.slots },
     ghost ours: { slots_of caller ≡ J.slots },
@@ -89,6 +92,7 @@ impl<'h, J: Naming, R: Wait + Clock> WorkerContext<'h, J, R> {
             caller,
             shard,
             teller: Teller::new(rt, beat.signals()),
+            claim: BodyClaim::new(beat.signals().body_memory()),
             beat,
             of: PhantomData,
         }
@@ -402,23 +406,23 @@ impl<'h, J: Naming, R: Wait + Clock> Handler for WorkerContext<'h, J, R> {
         RefusalForm::Status
     }
 
-    /// Who goes to no tenant is refused before the body comes, by the settings that are in force then.
+    /// Who goes to no tenant is refused before the body comes, by the settings that are in force then. So is a body for
+    /// which too little memory is left.
     fn reply_to_head(&self, head: &HttpMessage) -> Option<Reply> {
         match self.refusal(head) {
             Some(refusal) => Some(refused(self.alloc, refusal)),
-            None => None,
+            None => if self.claim.claim(head) {
+                None
+            } else {
+                Some(without_memory(self.alloc))
+            },
         }
     }
 
     fn handle<T: Threads + Sync>(&mut self, rt: &T, message: HttpMessage) -> Reply {
-        match self.destination(&message) {
-            Ok(Destination::To { tenant, section }) => {
-                let HttpMessage { body, .. } = message;
-                self.post(rt, tenant, &section, body)
-            }
-            Ok(Destination::Nowhere(refusal)) => refused(self.alloc, refusal),
-            Err(AllocError) => without_memory(self.alloc),
-        }
+        let reply = self.reply_to(rt, message);
+        self.end_body();
+        reply
     }
 }
 
@@ -429,7 +433,27 @@ impl<'h, J: Naming, R: Wait + Clock> WorkerContext<'h, J, R> {
     ghost use Rattle.tail_settings.specs.Section.{section_view};
     ghost use Rattle.tail_settings.specs.Settings.{SettingsData};
     ghost use Rattle.trace_service.specs.InForce.{CameOf, IsWhere};
-    ghost use Rattle.trace_service.specs.Post.{IsSent};
+    ghost use Rattle.trace_service.specs.Post.{IsHandled, IsSent};
+
+    /// The reply to a message, whose body is let go of.
+    fn reply_to<T: Threads + Sync>(&mut self, rt: &T, message: HttpMessage) -> Reply
+        ensures { IsHandled J.first self.old.beat.last self.new.beat.last self.old.caller
+            self.new.caller (length self.old.hub.now) (seen message) (response_of result) }
+    {
+        match self.destination(&message) {
+            Ok(Destination::To { tenant, section }) => {
+                let HttpMessage { body, .. } = message;
+                self.post(rt, tenant, &section, body)
+            }
+            Ok(Destination::Nowhere(refusal)) => refused(self.alloc, refusal),
+            Err(AllocError) => without_memory(self.alloc),
+        }
+    }
+
+    /// No body is on its way to it any more.
+    pub fn end_body(&self) {
+        self.claim.give_back();
+    }
 
     /// Why the message with this head goes to no tenant, by the settings in force. None where it goes to one. Meanwhile
     /// they are locked.

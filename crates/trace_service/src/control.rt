@@ -13,7 +13,7 @@ use crate::chore::Chore;
 use crate::context::WorkerContext;
 use crate::course::{Observer, Stage};
 use crate::documents::Documents;
-use crate::entrance::{wake, wake_at_last};
+use crate::entrance::wake_at_last;
 use crate::in_force::InForce;
 use crate::input::{Line, next_line};
 use crate::naming::Naming;
@@ -39,7 +39,7 @@ pub(crate) struct Control<'h, J: Naming, R, D> {
     pub roster: Roster,
     pub documents: &'h D,
     pub listener: &'h TcpListener,
-    /// Where whoever looks after the service comes in.
+    /// Where the admin port listens.
     pub admin: Option<&'h TcpListener>,
     pub context: WorkerContext<'h, J, R>,
     pub beat: ServiceBeat<'h, R>,
@@ -82,21 +82,20 @@ where
         observer.observe(Stage::Draining);
         self.drain_all(roster.tenants());
         self.beat.signals().close();
-        let is_woken = wake(self.rt, self.listener);
         self.await_empty(roster.tenants(), observer);
         self.print_reports(roster.tenants(), output, &mut lost);
         observer.observe(Stage::Closing);
         self.beat.signals().end();
-        wake_at_last(self.rt, self.listener, is_woken);
+        wake_at_last(self.rt, self.listener);
         self.wake_admin();
         heard?;
         Ok(lost)
     }
 
-    /// Wakes who waits for whoever looks after the service.
+    /// Wakes who waits for clients of the admin port.
     fn wake_admin(&self) {
         if let Some(admin) = self.admin {
-            wake_at_last(self.rt, admin, false);
+            wake_at_last(self.rt, admin);
         }
     }
 
@@ -193,9 +192,10 @@ where
         }
     }
 
-    /// These tenants take no spans any more, and all send what they hold. A drain writes all batches in its one step:
-    /// where memory for these is refused it is turners that make them fewer, one after another. Who drains stays behind
-    /// turners meanwhile: at a moment ahead of theirs it would write batches that they don't yet hand out.
+    /// These tenants take no spans any more, and all send what they hold. A drain decides all that waits in one step,
+    /// or nothing: where memory for the keys of its batches is refused it is turners that make less of it, one batch
+    /// after another. Who drains stays behind turners meanwhile: at a moment ahead of theirs its step would write
+    /// batches that they don't yet hand out.
     fn drain_all(&mut self, tenants: &[Present])
         ensures drained { AreDrained (length self.old.context.hub.now) self.old.context.caller
             self.old.beat.last (map (λ tenant. tenant.number) tenants.now) self.new.context.caller

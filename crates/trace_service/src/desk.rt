@@ -1,4 +1,4 @@
-//! Where those who look after a service hand in what they ask of who reads its input, and hear what it answers.
+//! Where threads of the admin port hand in what they ask of who reads its input, and hear what it answers.
 
 ghost use Rattle.std.specs.Prelude.{◌≤◌, length, None, IfSome};
 
@@ -55,7 +55,7 @@ pub(crate) enum Asked {
     Ended,
 }
 
-/// Where those who look after a service hand in what they ask of who reads its input, and hear what it answers.
+/// Where threads of the admin port hand in what they ask of who reads its input, and hear what it answers.
 #[derive(Drop)]
 pub struct AdminDesk {
     alloc: Global,
@@ -247,7 +247,7 @@ fn who_goes(alloc: Global, matter: &Matter) -> Option<String> {
     String::from_str(alloc, name).ok()
 }
 
-/// The input of a service that is looked after: the lines that are asked for at its desk, until it is to end.
+/// The input of a service with an admin port: the lines that are asked for at its desk, until it is to end.
 #[derive(Drop)]
 pub struct DeskInput<'d, R> {
     pub rt: &'d R,

@@ -21,35 +21,16 @@ pub(crate) struct Entrance<'h> {
     listener: &'h TcpListener,
     turn: Mutex<()>,
     patience: Patience,
-    // Whether clients come in until the work is over, and not only until no more spans are taken.
-    is_open_late: bool,
 }
 
 impl<'h> Entrance<'h> {
-    /// An entrance for clients for whom is waited so long.
+    /// An entrance for clients for whom is waited so long. They come in until the work is over: during a drain too,
+    /// when each is told that no more spans are taken.
     pub fn new(listener: &'h TcpListener, patience: Patience) -> Entrance<'h> {
         Entrance {
             listener,
             turn: Mutex::new(()),
             patience,
-            is_open_late: false,
-        }
-    }
-
-    /// One at this listener for clients who come in until the work is over, also behind the end of the input.
-    pub fn to_the_end(listener: &'h TcpListener, patience: Patience) -> Entrance<'h> {
-        Entrance {
-            is_open_late: true,
-            ..Entrance::new(listener, patience)
-        }
-    }
-
-    /// Whether no client is to come in any more.
-    pub fn is_shut(&self, signals: &Signals) -> bool {
-        if self.is_open_late {
-            signals.is_over()
-        } else {
-            signals.is_closing()
         }
     }
 
@@ -61,7 +42,7 @@ impl<'h> Entrance<'h> {
     /// Waits for the next client. None where the end has come meanwhile, or where none can be taken now.
     pub fn admit<'s, R: Wait + Clock>(&self, rt: &R, signals: &'s Signals) -> Option<Client<'s>> {
         let _turn = self.turn.lock(rt);
-        if self.is_shut(signals) {
+        if signals.is_over() {
             return None;
         }
         match self.listener.accept() {
@@ -98,7 +79,7 @@ impl<'h> Entrance<'h> {
 /// Makes a connection to the listener's own address, so that the receiver whose turn it is doesn't wait for one; the
 /// others then take their turns. Where the listener has no room for it, who came before wakes them. False where it
 /// can't be made, as while there is no descriptor.
-pub(crate) fn wake<R>(rt: &R, listener: &TcpListener) -> bool
+fn wake<R>(rt: &R, listener: &TcpListener) -> bool
 where
     R: Net<Listener = TcpListener, Stream = TcpStream>,
 {
@@ -112,16 +93,15 @@ where
 }
 
 /// Tries again until the receiver is woken: connections that end give their descriptors back.
-pub(crate) fn wake_at_last<R>(rt: &R, listener: &TcpListener, mut is_woken: bool)
+pub(crate) fn wake_at_last<R>(rt: &R, listener: &TcpListener)
 where
     R: Net<Listener = TcpListener, Stream = TcpStream> + Wait + Clock,
 {
     'attempts: for _ in rt.forever() {
-        if is_woken {
+        if wake(rt, listener) {
             return;
         }
         thread::sleep(rt, Duration::from_millis(REST));
-        is_woken = wake(rt, listener);
     }
     unreachable!()
 }

@@ -1,4 +1,4 @@
-//! What tenants' back ends answered last, for whoever looks after the service.
+//! What tenants' back ends answered last, for the admin port.
 
 ghost use Rattle.std.specs.Prelude.{◌≡◌};
 ghost use Rattle.trace_service.specs.LastAnswers.{IsAnswered, answer_in, word_of};

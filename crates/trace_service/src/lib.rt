@@ -8,10 +8,11 @@
 //!
 //! It stands on `shared_hub` for the shards, on `export_edge` and `job_lane` for jobs, on `http_edge`, `otlp_front` and
 //! `otlp_prepare` for bodies, on `http_line` for connections, on `tail_settings` for what it serves under, on
-//! `settings_check` for what is told of a document, on `admin_pages` and `admin_page` for what whoever looks after it
-//! sees, and on `replay_script` for how a report is spelled. How it starts and ends is this project's own.
+//! `settings_check` for what is told of a document, on `admin_pages` and `admin_page` for what its admin port
+//! shows, and on `replay_script` for how a report is spelled. How it starts and ends is this project's own.
 #![tactic(auto)]
 
+ghost use Rattle.trace_service.specs.BodyMemory.{CountsCoverBodies};
 ghost use Rattle.trace_service.specs.Jobs.{PoppedWereGiven};
 ghost use Rattle.trace_service.specs.LastAnswers.{AreToldAsNoted, IsNothingTold};
 ghost use Rattle.trace_service.specs.Post.{StatusesAgree};
@@ -27,6 +28,7 @@ mod admin_port;
 mod assignment;
 mod beat;
 mod beside;
+mod body_memory;
 mod changes;
 mod chore;
 mod comings;
@@ -93,6 +95,12 @@ pub fn statuses_agree()
 pub fn retry_doubts_hold()
     ensures told { RetryDoubtsHold }
     ensures untold { RetriesAreMade }
+{}
+
+/// No body that is taken has more bytes than count for it while it is on its way: a law over the definitions of two
+/// crates.
+pub fn counts_cover_bodies()
+    ensures { CountsCoverBodies }
 {}
 
 /// Limits that stand in two crates are the same: a body that a script posts may be as long as one over HTTP, the

@@ -1,4 +1,4 @@
-//! What whoever looks after a service is told.
+//! What the admin port tells in few words.
 
 ghost use Rattle.std.specs.Prelude.{◌≡◌, ◌++◌, IfOk, OnOk};
 ghost use Rattle.http_edge.specs.Seen.{response_of};

@@ -26,4 +26,7 @@ pub struct ServiceOptions {
     /// So long a whole attempt at a job may take, from connecting to its back end to the end of the answer, before it
     /// has failed; without it for ever. Not 0.
     pub back_end_timeout: Option<Duration>,
+    /// So many bytes of clients' bodies may be on their way at a time, of all connections together; without it any
+    /// number. Not below 20,971,520, which the longest body has.
+    pub body_memory: Option<u64>,
 }

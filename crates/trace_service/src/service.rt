@@ -92,8 +92,8 @@ impl From<HubFault> for ServiceFault {
 }
 
 /// Serves under these settings until the input ends and all tenants have sent what they held: as many receivers and
-/// senders as the options say, or else the settings, a turner for each shard, and one lane. Where it is looked after,
-/// eight more threads answer whoever does. A line `report NAME` of the input prints that tenant's counters, `add PATH`
+/// senders as the options say, or else the settings, a turner for each shard, and one lane. With an admin port
+/// eight more threads answer there. A line `report NAME` of the input prints that tenant's counters, `add PATH`
 /// lets a tenant come whose document is in a file, and `retire NAME` lets one go once it has sent what it held. All
 /// reports are printed at the end; with an audit also how many entries each shard's log has. What can't be written to
 /// the output is lost, and the service goes on: it says at its end how many answers were. After a fault of the input it
@@ -200,7 +200,7 @@ where
         seats,
     } = opened;
     let roster = Roster::of(start.alloc, &settings)?;
-    let workplace = Workplace::<J>::new(start.alloc, settings, hub, lane, limits.senders)?;
+    let workplace = Workplace::<J>::new(start.alloc, settings, hub, lane, &limits)?;
     // All that is lent together is lent for as long as the workplace stands.
     let (callers, seats, ended) = at_work::<J, R, D, I, O, L>(
         &*start, &workplace, limits, roster, callers, seats, console,

@@ -22,17 +22,20 @@ use std::sync::{Mutex, Wait};
 use std::time::{Clock, Duration, Instant};
 use tail_settings::{GlobalSettings, Settings};
 
-/// How many threads there are of a kind, and how long they wait for those outside. It stays as the settings change.
+/// How many threads there are of a kind, how long they wait for those outside, and how much they hold of what comes.
+/// It stays as the settings change.
 #[derive(Clone, Copy, Debug)]
 pub(crate) struct ServiceLimits {
     pub senders: u32,
     pub receivers: u32,
-    /// Those that serve whoever looks after the service.
+    /// Those that serve the admin port.
     pub admins: u32,
     /// For a client, by a receiver.
     pub patience: Patience,
     /// For a back end in a whole attempt, by a sender.
     pub back_end_timeout: Option<Duration>,
+    /// For bodies that are on their way.
+    pub body_memory: Option<u64>,
     /// For the notes of one body, the one that it came to among them.
     pub parts: u32,
     pub ghost parts_range: { (0 < parts) × (parts ≤ 16) },
@@ -55,6 +58,7 @@ impl ServiceLimits {
         ensures request { result.patience.request ≡ options.now.request_timeout }
         ensures bytes { result.patience.bytes ≡ None }
         ensures back_end { result.back_end_timeout ≡ options.now.back_end_timeout }
+        ensures body_memory { result.body_memory ≡ options.now.body_memory }
     {
         ServiceLimits {
             senders: options.senders.unwrap_or(global.senders),
@@ -66,12 +70,13 @@ impl ServiceLimits {
                 bytes: None,
             },
             back_end_timeout: options.back_end_timeout,
+            body_memory: options.body_memory,
             parts: global.parts,
         }
     }
 }
 
-/// So many threads serve whoever looks after the service, if anybody does.
+/// So many threads serve the admin port, if there is one.
 fn admins_of(is_looked_after: bool) -> u32
     ensures admins { result ≡ (if is_looked_after then ADMINS else 0) }
     ensures few { result ≤ ADMINS }
@@ -89,20 +94,20 @@ pub(crate) struct Workplace<J: Naming> {
 }
 
 impl<J: Naming> Workplace<J> {
-    /// One under these settings, with so many senders, at which nobody is yet.
+    /// One under these settings and with these limits, at which nobody is yet.
     pub fn new(
         alloc: Global,
         settings: Settings,
         hub: SharedHub,
         lane: Lane,
-        senders: u32,
+        limits: &ServiceLimits,
     ) -> Result<Workplace<J>, AllocError>
         requires { settings_view settings ≡ J.first }
         ensures hub { IfOk result (λ w. w.hub ≡ hub) }
         ensures lane { IfOk result (λ w. w.lane ≡ lane) }
     {
         let settings = InForce::<J>::new(settings);
-        let signals = Signals::new(alloc, hub.shards(), senders)?;
+        let signals = Signals::new(alloc, hub.shards(), limits.senders, limits.body_memory)?;
         Ok(Workplace {
             settings: Mutex::new(settings),
             hub,
@@ -122,7 +127,7 @@ pub(crate) struct Shared<'h, J: Naming, R> {
     pub hub: &'h SharedHub,
     pub lane: &'h Lane,
     pub entrance: Entrance<'h>,
-    /// Where it is looked after, if anywhere.
+    /// Its admin port, if it has one.
     pub admin: Option<AdminEntrance<'h>>,
     pub beat: ServiceBeat<'h, R>,
     /// How many threads there are.
@@ -161,7 +166,7 @@ impl<'h, J: Naming, R: Wait + Clock> Shared<'h, J, R> {
         })
     }
 
-    /// Where whoever looks after the service comes in.
+    /// Where the admin port listens.
     pub fn admin_listener(&self) -> Option<&'h TcpListener>
         ensures { is_some result ≡ is_some self.now.admin }
     {

@@ -15,7 +15,7 @@ pub struct ServiceStart<'a, R, D> {
     pub listener: &'a TcpListener,
     /// Where the documents of those who come are read from.
     pub documents: &'a D,
-    /// Where it is looked after, if anywhere.
+    /// Its admin port, if it is to have one.
     pub admin: Option<AdminPort<'a>>,
     pub options: ServiceOptions,
 }

@@ -1,4 +1,4 @@
-//! What threads count of what they do, for whoever looks after the service.
+//! What threads count of what they do, for the admin port.
 
 use admin_pages::{STATUS_COUNTS, ServiceCounts, StatusCounts, status_place};
 use export_edge::TurnResult;
@@ -94,7 +94,7 @@ impl StatusTally {
     }
 }
 
-/// What threads count of what they do. It is told to whoever looks after the service, and nothing is done by it.
+/// What threads count of what they do. It is told at the admin port, and nothing is done by it.
 #[derive(Drop)]
 pub(crate) struct Tally {
     memory_refusals: Count,

@@ -40,7 +40,7 @@ pub(crate) enum Role {
     Turner,
     /// Sends jobs.
     Sender,
-    /// Serves connections of whoever looks after the service, one after another.
+    /// Serves connections of the admin port, one after another.
     Admin,
     /// Serves connections, one after another.
     Receiver,
@@ -203,7 +203,7 @@ fn settle(role: Role, reserve: &Reserve) {
     }
 }
 
-/// Serves those that look after the service, where anybody may.
+/// Serves the admin port, if there is one.
 fn look_after<'h, J, R>(
     shared: &Shared<'h, J, R>,
     context: &mut WorkerContext<'h, J, R>,
@@ -282,7 +282,7 @@ impl<'h, J: Naming, R: Wait + Clock> Reception for WorkerContext<'h, J, R> {
     ghost rests = { λ old new. new ≡ old };
 
     fn is_closing(&mut self) -> bool {
-        self.signals().is_closing()
+        self.signals().is_over()
     }
 
     fn next(&mut self, door: &Entrance<'h>) -> Option<Client<'h>> {
@@ -295,7 +295,9 @@ impl<'h, J: Naming, R: Wait + Clock> Reception for WorkerContext<'h, J, R> {
         let tally = self.signals().tally();
         tally.begin_connection();
         let mut line = StreamLine::new(Counted::new(Visit::new(self.rt(), &guest), tally));
-        match serve(rt, self.alloc(), &mut line, self, buffer) {
+        let served = serve(rt, self.alloc(), &mut line, self, buffer);
+        self.end_body();
+        match served {
             Ok(()) | Err(EdgeFault::OutOfMemory) => linger(&guest.stream, &mut beat),
             Err(_) => {}
         }

@@ -1,9 +1,9 @@
 use Rattle.std.proofs.Common.{Ok, [], refl, ap, append-nil, true, false, arith}
 use Rattle.std.proofs.lemmas.Result.{err_from_is_err_and}
-use Rattle.http_edge.specs.Talk.{RefusesHead, at_head, many_lines, nothing, refusing, waits, refuses, in_head, at_front}
+use Rattle.http_edge.specs.Talk.{RefusesHead, at_head, many_lines, nothing, refusing, waits, refuses, in_head, at_front, behind_head, at_refusal}
 use Rattle.http_edge.specs.Reply.{refusal_text}
 use Rattle.http_edge.specs.Stages.{IsHeadProgress}
-use Rattle.http_edge.specs.declared.head.HeadProgress.TheVariants.{More, TooMany}
+use Rattle.http_edge.specs.declared.head.HeadProgress.TheVariants.{More, TooMany, OutOfMemory}
 use Rattle.http_line.proofs.Moved.{then_to}
 use Rattle.http_edge.proofs.Served.{goes_after, over_after, cut_after, cut_by}
 use Rattle.http_edge.proofs.server.exchange.Goals as goal
@@ -12,15 +12,18 @@ pub returns-in_err-read_head-clause-on_error : goal.returns-in_err-read_head-cla
 returns-in_err-read_head-clause-on_error g c =
     let e = c.in_err-read_head.ensures.on_error in
     let p = err_from_is_err_and c.from_residual.result c.from_residual.ensures.1 in
+    let same = p.2 in
     rw p.1 (record {
       broken = λ _. record { read = e.0; written = []; moves = e.1; missing = []; due = nothing refl };
-      short = λ _. record { read = e.0; written = []; moves = e.1; lacks = at_front refl };
+      short = λ lack.
+          let l = c.in_err-read_head.ensures.lacks (cc) in
+          record { read = l.0; written = []; moves = l.1; lacks = rw (← l.2) (at_front l.3 refl) };
     })
 
 pub returns-in_err-refuse-in-Refuse-clause-on_error : goal.returns-in_err-refuse-in-Refuse-clause-on_error
 returns-in_err-refuse-in-Refuse-clause-on_error g c =
     let e = c.in_ok-read_head.ensures.on_success in
-    let begin : RefusesHead c.read_head.new.buffer.items c.in-Refuse.bodiless
+    let begin : RefusesHead c.read_head.new.buffer.items c.in-Refuse.is_bodiless
     c.in-Refuse.status = rw c.in-Refuse.is at e.3 in
     let f = rw c.refusals-in-Refuse.ensures at c.in_err-refuse-in-Refuse.ensures.on_error in
     let p = err_from_is_err_and c.from_residual-in_err-refuse-in-Refuse.result
@@ -38,7 +41,7 @@ returns-in_err-refuse-in-Refuse-clause-on_error g c =
         read = e.0;
         written = [];
         moves = then_to e.1 (c.in_err-refuse-in-Refuse.ensures.quiet (cc)) (append-nil _) refl;
-        lacks = at_front refl;
+        lacks = rw (← e.2) (at_refusal _ _ begin refl);
       };
     })
 
@@ -62,9 +65,23 @@ returns-in_err-refuse-in-TooMany-clause-on_error g c =
         read = e.0;
         written = [];
         moves = then_to e.1 (c.in_err-refuse-in-TooMany.ensures.quiet (cc)) (append-nil _) refl;
-        lacks = at_front refl;
+        lacks = rw (← e.2) (at_front begin.0 refl);
       };
     })
+
+pub returns-in-OutOfMemory-clause-on_error : goal.returns-in-OutOfMemory-clause-on_error
+returns-in-OutOfMemory-clause-on_error g c =
+    let e = c.in_ok-read_head.ensures.on_success in
+    let begin : IsHeadProgress c.read_head.new.buffer.items (OutOfMemory c.in-OutOfMemory.is_bodiless) = rw c.in-OutOfMemory.is at e.3 in
+    record {
+      broken = λ other. absurd (other refl);
+      short = λ _. record {
+        read = e.0;
+        written = [];
+        moves = e.1;
+        lacks = rw (← e.2, begin.3) (behind_head begin.0 begin.1 begin.2 refl);
+      };
+    }
 
 pub returns-in_ok-refuse-in-TooMany-clause-closes : goal.returns-in_ok-refuse-in-TooMany-clause-closes
 returns-in_ok-refuse-in-TooMany-clause-closes g c = λ _.
@@ -96,11 +113,11 @@ returns-in-More-clause-closes g c = λ _.
 pub returns-in_ok-refuse-in-Refuse-clause-closes : goal.returns-in_ok-refuse-in-Refuse-clause-closes
 returns-in_ok-refuse-in-Refuse-clause-closes g c = λ _.
     let e = c.in_ok-read_head.ensures.on_success in
-    let begin : RefusesHead c.read_head.new.buffer.items c.in-Refuse.bodiless
+    let begin : RefusesHead c.read_head.new.buffer.items c.in-Refuse.is_bodiless
     c.in-Refuse.status = rw c.in-Refuse.is at e.3 in
     record {
       read = e.0;
-      text = refusal_text g.H.Handler.refusals c.in-Refuse.bodiless c.in-Refuse.status;
+      text = refusal_text g.H.Handler.refusals c.in-Refuse.is_bodiless c.in-Refuse.status;
       over = true;
       moves = then_to e.1 (rw c.refusals-in-Refuse.ensures at c.in_ok-refuse-in-Refuse.ensures.on_success) (append-nil _) refl;
       ends = rw (← e.2) (refuses _ (at_head _ _ begin) refl);

@@ -24,7 +24,7 @@ returns-in_err-send-in-Err-OutOfMemory-clause-fault g c =
       t.0,
       _,
       then_to t.2 e.3 (append-nil t.0) refl,
-      tells g.H.Handler.refusals e.0 e.1 (λ is. c.in_err-send-in-Err-OutOfMemory.ensures.no_read (cc)) (sym (rw c.refusals.ensures at c.no_memory_bytes.ensures) ∙ e.2)
+      tells g.H.Handler.refusals c.converse.new.bodiless e.0 e.1 (λ is. c.in_err-send-in-Err-OutOfMemory.ensures.no_read (cc)) (sym (rw c.refusals.ensures at c.no_memory_bytes.ensures) ∙ e.2)
           (λ is. absurd (c.in_err-send-in-Err-OutOfMemory.ensures.no_memory (cc))) t.3,
     )
 
@@ -35,7 +35,7 @@ returns-in_ok-send-in-Err-OutOfMemory-clause-fault g c =
       t.0,
       _,
       then_to t.2 all (append-nil t.0) refl,
-      tells g.H.Handler.refusals _ [] (λ is. absurd (cc)) (sym (rw c.refusals.ensures at c.no_memory_bytes.ensures) ∙ sym (append-nil _)) (λ _. refl) t.3,
+      tells g.H.Handler.refusals c.converse.new.bodiless _ [] (λ is. absurd (cc)) (sym (rw c.refusals.ensures at c.no_memory_bytes.ensures) ∙ sym (append-nil _)) (λ _. refl) t.3,
     )
 
 pub returns-in_err-send-in-Err-OutOfMemory-clause-write : goal.returns-in_err-send-in-Err-OutOfMemory-clause-write

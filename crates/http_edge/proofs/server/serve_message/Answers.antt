@@ -46,7 +46,7 @@ returns-in_err-read_body-clause-on_error g c =
         read = e.0;
         written = interim_text c.requires.0;
         moves = moves;
-        lacks = at_body c.requires.0 (may_interim e.0 is) refl;
+        lacks = rw is.says.bodiless (at_body c.requires.0 (may_interim e.0 is) refl);
       };
     })
 
@@ -76,7 +76,7 @@ returns-in_err-refuse-in-TooLong-clause-on_error g c =
         written = interim_text c.requires.0;
         moves = then_to (first_moves c.args.head.expects c.requires.0 is.says.expects c.in_ok-interim.ensures.on_success
             e.1) (c.in_err-refuse-in-TooLong.ensures.quiet (cc)) (append-nil _) (append-nil _);
-        lacks = at_body c.requires.0 (may_interim e.0 is) refl;
+        lacks = rw is.says.bodiless (at_body c.requires.0 (may_interim e.0 is) refl);
       };
     })
 
@@ -106,7 +106,7 @@ returns-in_err-refuse-in-Bad-clause-on_error g c =
         written = interim_text c.requires.0;
         moves = then_to (first_moves c.args.head.expects c.requires.0 is.says.expects c.in_ok-interim.ensures.on_success
             e.1) (c.in_err-refuse-in-Bad.ensures.quiet (cc)) (append-nil _) (append-nil _);
-        lacks = at_body c.requires.0 (may_interim e.0 is) refl;
+        lacks = rw is.says.bodiless (at_body c.requires.0 (may_interim e.0 is) refl);
       };
     })
 
@@ -139,8 +139,8 @@ returns-in_err-goes-in-Whole-clause-on_error g c =
             written = interim_text h;
             moves = then_to (first_moves c.args.head.expects h is.says.expects c.in_ok-interim.ensures.on_success e.1)
                 s.0 (append-nil _) (append-nil _);
-            lacks = lacks_reply g.H.Handler.answers (c.args.buffer.now.items ++ e.0) c.read_body.new.buffer.items has
-                s.2 s.3;
+            lacks = rw is.says.bodiless (lacks_reply g.H.Handler.answers (c.args.buffer.now.items ++ e.0)
+                c.read_body.new.buffer.items has s.2 s.3);
           };
     })
 

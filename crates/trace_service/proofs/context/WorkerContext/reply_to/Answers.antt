@@ -1,9 +1,9 @@
 use Rattle.std.proofs.Common.{refl}
 use Rattle.http_edge.specs.Seen.{seen}
 use Rattle.otlp_front.specs.Route.{names_in, route_of}
-use Rattle.trace_service.specs.Post.{handled, not_copied}
+use Rattle.trace_service.specs.Post.{handled, no_room}
 use Rattle.trace_service.proofs.Handled.{sent_to, sent_nowhere}
-use Rattle.trace_service.proofs.context.WorkerContextHandler.handle.Goals as goal
+use Rattle.trace_service.proofs.context.WorkerContext.reply_to.Goals as goal
 
 pub returns-in-Ok-To : goal.returns-in-Ok-To
 returns-in-Ok-To g c =
@@ -18,4 +18,4 @@ returns-in-Ok-Nowhere g c =
     handled found.0 found.1 (sent_nowhere _ _ _ _ _ message.body _ (route_of (names_in found.0) message) found.0 c.in-Ok-Nowhere.refusal (rw c.in-Ok-Nowhere.field-0-is at found.2) refl refl c.refused.ensures)
 
 pub returns-in-Err : goal.returns-in-Err
-returns-in-Err g c = not_copied refl refl c.without_memory.ensures
+returns-in-Err g c = no_room refl refl c.without_memory.ensures
