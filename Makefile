@@ -2,22 +2,25 @@
 
 PROGRAM = crates/trace_collector_program
 
+# A test of the program that the gate built. What it says is printed only where it fails.
+tried = said=$$(python3 tests/$(1) $(PROGRAM)/out/trace_collector_program $(2)) || { echo "$$said"; exit 1; }
+
 # The gate: what needs no toolchain, and then every crate and its tests proved, but for
 # what has passed on this machine as it stands, the edits that must be refused, the tests
 # and the programs; last what the program that was built there prints.
 test: checks
 	@command -v rt > /dev/null || { echo 'make: there is no command rt: docs/BUILDING.md names the toolchain' >&2; exit 1; }
 	@rt ci
-	@said=$$(python3 tests/program.py $(PROGRAM)/out/trace_collector_program) || { echo "$$said"; exit 1; }
-	@said=$$(python3 tests/stories.py $(PROGRAM)/out/trace_collector_program) || { echo "$$said"; exit 1; }
-	@said=$$(python3 tests/script_lines.py $(PROGRAM)/out/trace_collector_program) || { echo "$$said"; exit 1; }
-	@said=$$(python3 tests/random_scripts.py $(PROGRAM)/out/trace_collector_program) || { echo "$$said"; exit 1; }
-	@said=$$(python3 tests/random_settings.py $(PROGRAM)/out/trace_collector_program) || { echo "$$said"; exit 1; }
-	@said=$$(python3 tests/random_bodies.py $(PROGRAM)/out/trace_collector_program) || { echo "$$said"; exit 1; }
-	@said=$$(python3 tests/service.py $(PROGRAM)/out/trace_collector_program) || { echo "$$said"; exit 1; }
-	@said=$$(python3 tests/package.py $(PROGRAM)/out/trace_collector_program) || { echo "$$said"; exit 1; }
-	@said=$$(python3 tests/replay/steady.py $(PROGRAM)/out/trace_collector_program 100000) || { echo "$$said"; exit 1; }
-	@said=$$(python3 tests/replay/lives.py $(PROGRAM)/out/trace_collector_program 2000) || { echo "$$said"; exit 1; }
+	@$(call tried,program.py)
+	@$(call tried,stories.py)
+	@$(call tried,script_lines.py)
+	@$(call tried,random_scripts.py)
+	@$(call tried,random_settings.py)
+	@$(call tried,random_bodies.py)
+	@$(call tried,service.py)
+	@$(call tried,package.py)
+	@$(call tried,replay/steady.py,100000)
+	@$(call tried,replay/lives.py,2000)
 
 # Seconds, with Python alone: the definitions that docs/ quotes stand so in their
 # files, each public definition has its comment, want of memory is made only where
@@ -73,17 +76,20 @@ ETC = /etc
 BIN = $(PREFIX)/bin
 MAN = $(PREFIX)/share/man/man1
 UNITS = $(PREFIX)/lib/systemd/system
+LIBEXEC = $(PREFIX)/libexec/nimchaes
 EXAMPLES = $(PREFIX)/share/doc/nimchaes/examples
 PAGES = $(PREFIX)/share/doc/nimchaes/docs
 
-# Puts the program that is built, its manual page, its unit for systemd, examples to start from and operators' pages below
-# DESTDIR. It proves and builds nothing, so that root needs no toolchain.
+# Puts the program that is built, its manual page, its unit for systemd with what asks it to drain, examples to start from and
+# operators' pages below DESTDIR. It proves and builds nothing, so that root needs no toolchain.
 install:
 	@test -x $(BUILT) || { echo 'make: $(BUILT) is not there yet: make trace_collector builds it' >&2; exit 1; }
-	install -d $(DESTDIR)$(BIN) $(DESTDIR)$(MAN) $(DESTDIR)$(UNITS) $(DESTDIR)$(EXAMPLES) $(DESTDIR)$(PAGES)
+	install -d $(DESTDIR)$(BIN) $(DESTDIR)$(MAN) $(DESTDIR)$(UNITS) $(DESTDIR)$(LIBEXEC) $(DESTDIR)$(EXAMPLES) $(DESTDIR)$(PAGES)
 	install -m 755 $(BUILT) $(DESTDIR)$(BIN)/trace_collector
+	install -m 755 packaging/drain $(DESTDIR)$(LIBEXEC)
 	python3 packaging/manual.py $(abspath $(BUILT)) > $(DESTDIR)$(MAN)/trace_collector.1
-	sed -e 's|@BIN@|$(BIN)|g' -e 's|@ETC@|$(ETC)|g' packaging/nimchaes.service.in > $(DESTDIR)$(UNITS)/nimchaes.service
+	sed -e 's|@BIN@|$(BIN)|g' -e 's|@LIBEXEC@|$(LIBEXEC)|g' -e 's|@ETC@|$(ETC)|g' packaging/nimchaes.service.in \
+	  > $(DESTDIR)$(UNITS)/nimchaes.service
 	chmod 644 $(DESTDIR)$(MAN)/trace_collector.1 $(DESTDIR)$(UNITS)/nimchaes.service
 	install -m 644 examples/start.toml $(DESTDIR)$(EXAMPLES)/settings.toml
 	install -m 644 examples/prometheus.yml examples/alerts.yml examples/nginx.conf $(DESTDIR)$(EXAMPLES)

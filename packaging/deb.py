@@ -1,8 +1,8 @@
 #!/usr/bin/env python3
 """Makes a Debian package of what `make install` puts below /usr: `packaging/deb.py PROGRAM FOLDER`.
 
-The package comes into FOLDER, as nimchaes_VERSION_ARCHITECTURE.deb. Needed are `dpkg` and `make`; `strip` is used where
-it is installed. What is dated has the moment of SOURCE_DATE_EPOCH, or else of the build.
+The package comes into FOLDER, as nimchaes_VERSION_ARCHITECTURE.deb, in place of an earlier one. Needed are `dpkg` and `make`;
+`strip` is used where it is installed. What is dated, and the version, has the moment of SOURCE_DATE_EPOCH, or else of the build.
 """
 
 import gzip
@@ -29,7 +29,8 @@ def said(*words):
 
 
 def version_of(program):
-    return f"{said(program, '--version').split()[-1]}-{REVISION}"
+    """The program's, and the moment: without it a later build would count as the one that is installed."""
+    return f"{said(program, '--version').split()[-1]}-{REVISION}+{time.strftime('%Y%m%d%H%M%S', time.gmtime(MOMENT))}"
 
 
 def needed_libc(program):
@@ -92,6 +93,8 @@ def main(program, folder):
         root.mkdir()
         fill(root, program)
         file = folder / describe(root, program)
+        for earlier in folder.glob(f"{NAME}_*.deb"):
+            earlier.unlink()
         said("dpkg-deb", "--root-owner-group", "--build", str(root), str(file))
     print(file)
 

@@ -148,6 +148,17 @@ def reports(machine):
     return [line for line in machine.journal().splitlines() if line.startswith("report ")]
 
 
+def edited(machine, name, text):
+    """As `systemctl edit` does it; without a text it is as before."""
+    file = machine.file(f"/etc/systemd/system/{UNIT}.d/{name}.conf")
+    if text is None:
+        file.unlink()
+    else:
+        file.parent.mkdir(exist_ok=True)
+        file.write_text(text)
+    machine.does("systemctl", "daemon-reload")
+
+
 def comes(machine, file):
     """Without settings it is installed and enabled, and waits for them."""
     check("it is installed", machine.does("dpkg", "--install", file)[0], 0)
@@ -158,12 +169,15 @@ def comes(machine, file):
 def starts(machine, back_end):
     """It is started with good settings alone, and serves then."""
     machine.file(SETTINGS).parent.mkdir(exist_ok=True)
+    # However slow this machine is, five starts are within it.
+    edited(machine, "starts", "[Unit]\nStartLimitIntervalSec=600\n")
     for text in ("[[tenant]]\n", settings_of(back_end).replace("parts", "party")):
         machine.file(SETTINGS).write_text(text)
         check("it isn't started", machine.does("systemctl", "start", UNIT)[0], 1)
         wait_for(lambda: machine.state()[0] == "failed", "it isn't tried again")
         check("with that", machine.state()[1], "exit-code")
         machine.does("systemctl", "reset-failed", UNIT)
+    edited(machine, "starts", None)
     machine.file(SETTINGS).write_text(settings_of(back_end))
     check("a start", machine.does("systemctl", "start", UNIT), (0, ""))
     check("it serves", (machine.state(), posted(3, 1)), (GOOD, 3))
@@ -192,10 +206,7 @@ def stops(machine, back_end):
 def is_killed(machine, back_end):
     """Where a back end never answers it is killed, once its limit is over."""
     back_end.reply = None
-    limit = machine.file(f"/etc/systemd/system/{UNIT}.d/limit.conf")
-    limit.parent.mkdir()
-    limit.write_text(f"[Service]\nTimeoutStopSec={LIMIT}\n")
-    machine.does("systemctl", "daemon-reload")
+    edited(machine, "limit", f"[Service]\nTimeoutStopSec={LIMIT}\n")
     machine.does("systemctl", "start", UNIT)
     check("a post", posted(1, 1), 1)
     begun = time.monotonic()
@@ -203,21 +214,18 @@ def is_killed(machine, back_end):
     took = time.monotonic() - begun
     check("it was killed", machine.state()[:2], ["failed", "timeout"])
     check(f"within its limit, after {took:.1f} s", LIMIT <= took < LIMIT + 5, True)
-    limit.unlink()
     back_end.release()
-    machine.does("systemctl", "daemon-reload")
+    edited(machine, "limit", None)
 
 
 def with_token(machine):
     """As docs/ADMIN.md has it for operators elsewhere: nothing is told without the token, and a stop has the one that
     the process was given, also where another one has taken its place in the file."""
     given = re.search(r"```ini\n(\[Service\]\nLoadCredential=.*?)```", ADMIN_PAGE.read_text(), re.DOTALL)[1]
-    edit = machine.file(f"/etc/systemd/system/{UNIT}.d/token.conf")
-    edit.write_text(given)
     token = machine.file("/etc/nimchaes/token")
     token.write_text("0123456789abcdef\n")
     token.chmod(0o600)
-    machine.does("systemctl", "daemon-reload")
+    edited(machine, "token", given)
     check("a start", machine.does("systemctl", "start", UNIT), (0, ""))
     asked = ("curl", "-s", "-o", "/dev/null", "-w", "%{http_code}", f"http://127.0.0.1:{ADMIN}/tenants")
     check("without the token", machine.asked(*asked), "401")
@@ -228,8 +236,20 @@ def with_token(machine):
     check("a stop", machine.does("systemctl", "stop", UNIT), (0, ""))
     check("what it says", (machine.state(), reports(machine)[-1:]),
           (ENDED, [line_of("a", accepted=4, exported=4).strip()]))
-    edit.unlink()
-    machine.does("systemctl", "daemon-reload")
+
+
+def with_other_options(machine):
+    """The unit's token goes, its port changes, and a restart is a drain all the same: of the port, and with the token,
+    that the process began with."""
+    check("a start", machine.does("systemctl", "start", UNIT), (0, ""))
+    for count, (name, text) in enumerate((("token", None), ("port", f"[Service]\nEnvironment=ADMIN=127.0.0.1:{ADMIN + 1}\n"),
+                                          ("port", None)), 1):
+        check("some posts", posted(count, 1), count)
+        edited(machine, name, text)
+        check(f"a restart with another {name}", machine.does("systemctl", "restart", UNIT), (0, ""))
+        check(f"what it says with another {name}", (machine.state(), reports(machine)[-1:]),
+              (GOOD, [line_of("a", accepted=count, exported=count).strip()]))
+    machine.does("systemctl", "stop", UNIT)
 
 
 def ends_by_itself(machine):
@@ -244,10 +264,10 @@ def ends_by_itself(machine):
 
 
 def is_replaced(machine, file):
-    """Another package takes the place of the first, with all sent that it held."""
+    """The package of a later build takes the place of the first, as docs/OPERATING.md has it, with all sent that it held."""
     check("a post", posted(5, 7), 5)
     before = machine.process()
-    check("it is installed anew", machine.does("dpkg", "--install", file)[0], 0)
+    check("it is installed anew", machine.does("apt-get", "install", "--yes", file)[0], 0)
     wait_for(lambda: machine.state() == GOOD, "it is there again")
     check("it is another", machine.process() not in (0, before), True)
     check("what the first one says", reports(machine)[-1], line_of("a", accepted=5, exported=5).strip())
@@ -264,21 +284,28 @@ def goes(machine):
     check("the settings stay", machine.file(SETTINGS).is_file(), True)
 
 
+def package(room, moment):
+    """The bytes of a package that is built at a moment."""
+    made = subprocess.run([sys.executable, HERE / "packaging/deb.py", talk.program, room], stdout=subprocess.PIPE, text=True,
+                          env={**os.environ, "SOURCE_DATE_EPOCH": str(moment)}, timeout=MOST, check=True).stdout.strip()
+    return Path(made).read_bytes()
+
+
 def tried(room):
-    made = subprocess.run([sys.executable, HERE / "packaging/deb.py", talk.program, room], stdout=subprocess.PIPE,
-                          text=True, timeout=MOST, check=True).stdout.strip()
+    first, second = (package(room, int(time.time()) - ago) for ago in (1, 0))
     with Machine(room) as machine:
-        file = machine.file("/root/nimchaes.deb")
-        file.write_bytes(Path(made).read_bytes())
+        machine.file("/root/first.deb").write_bytes(first)
+        machine.file("/root/second.deb").write_bytes(second)
         try:
             with BackEnd() as back_end:
-                comes(machine, "/root/nimchaes.deb")
+                comes(machine, "/root/first.deb")
                 starts(machine, back_end)
                 stops(machine, back_end)
                 is_killed(machine, back_end)
                 with_token(machine)
+                with_other_options(machine)
                 ends_by_itself(machine)
-                is_replaced(machine, "/root/nimchaes.deb")
+                is_replaced(machine, "/root/second.deb")
                 goes(machine)
         except Exception:  # pylint: disable=broad-except
             talk.faults += [traceback.format_exc(), machine.journal()]

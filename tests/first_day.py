@@ -210,11 +210,12 @@ def tenants_and_tokens(folder):
 
 
 def first_look(folder):
-    """docs/TROUBLE.md: of a span without an id, and of a back end that isn't there and then is; and each alert is there."""
+    """docs/TROUBLE.md: of a span without an id, of who is connected, and of a back end that isn't there and then is; and each alert
+    is there."""
     terminal, page, first = Terminal(folder), "docs/TROUBLE.md", "docs/OPERATING.md"
     alerts = re.findall(r"- alert: (\w+)", (HERE / "examples/alerts.yml").read_text())
     check("alerts", sorted(re.findall(r"`(Nimchaes\w+)`", (HERE / page).read_text())), sorted(alerts))
-    look, *chosen, asks = commands_of(page)
+    look, *chosen, client, connected, asks = commands_of(page)
     there = {"ENDPOINT": "127.0.0.1:4319"}
     Path(folder, "body").write_bytes(body(0, 1))
     with terminal.start(command(first, "./trace_collector serve examples/service.toml")) as service:
@@ -230,6 +231,11 @@ def first_look(folder):
         wanted = {'nimchaes_requests_total{code="200"} 2', "nimchaes_draining 0", "nimchaes_memory_refusals_total 0",
                   "nimchaes_receivers 2", "nimchaes_senders 2", "nimchaes_lane_jobs 0"}
         check("what is told, and what is busy", wanted - set(found[2]), set())
+        status, said = terminal.type(client, changed={"HOST": "127.0.0.1"})
+        check("a client's request", (status, said.splitlines()[0] if said else said), (0, "HTTP/1.1 200 OK"))
+        with talk.socket.create_connection(("127.0.0.1", 4318), timeout=MOST) as peer:
+            status, said = terminal.type(connected)
+            check("who is connected", (status, said.split()[2:]), (0, ["127.0.0.1:4318", "127.0.0.1:%d" % peer.getsockname()[1]]))
         check("nobody is there", terminal.type(asks, changed=there)[0], 7)
     with terminal.start(command(first, "python3 examples/back_end.py")) as back_ends:
         wait_for(lambda: " 200 OK" in terminal.type(asks, changed=there)[1], "the back end is there")

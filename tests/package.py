@@ -21,9 +21,10 @@ from serving.talk import MOST, BackEnd, body, check, free_port, globals_of, head
 
 HERE = Path(__file__).resolve().parent.parent
 FILES = {"bin/trace_collector": 0o755, "share/man/man1/trace_collector.1": 0o644,
-         "lib/systemd/system/nimchaes.service": 0o644, "share/doc/nimchaes/examples/settings.toml": 0o644,
-         "share/doc/nimchaes/examples/prometheus.yml": 0o644, "share/doc/nimchaes/examples/alerts.yml": 0o644,
-         "share/doc/nimchaes/examples/nginx.conf": 0o644, "share/doc/nimchaes/examples/collector-run": 0o755,
+         "lib/systemd/system/nimchaes.service": 0o644, "libexec/nimchaes/drain": 0o755,
+         "share/doc/nimchaes/examples/settings.toml": 0o644, "share/doc/nimchaes/examples/prometheus.yml": 0o644,
+         "share/doc/nimchaes/examples/alerts.yml": 0o644, "share/doc/nimchaes/examples/nginx.conf": 0o644,
+         "share/doc/nimchaes/examples/collector-run": 0o755,
          **{f"share/doc/nimchaes/docs/{page}.md": 0o644 for page in (
              "OPERATING", "ADMIN", "METRICS", "TROUBLE", "SIZING", "CONNECTING", "SCALING", "SETTINGS", "FAULTS", "HTTP",
              "SCRIPT")}}
@@ -115,6 +116,15 @@ def filled(words, variables):
             yield re.sub(r"\$\{(\w+)\}", lambda name: variables[name[1]], word)
 
 
+def unit_checks(unit, settings, good):
+    """What runs before the start finds an unknown key, a fault, and nothing in a good file, which is left there."""
+    for text, wanted in ((good.replace("parts", "party"), [False, True]), ("[[tenant]]\n", [True, False]),
+                         (good, [True, True])):
+        settings.write_text(text)
+        done = [said(*words)[0] == 0 for words in lines_of(unit, "ExecStartPre")]
+        check(f"before the start, of {text[-40:]!r}", done, wanted)
+
+
 def unit_runs(folder):
     """What the unit runs, without systemd: it starts with an input that ends at once, serves, and sends what waits when
     it is told to stop."""
@@ -133,12 +143,7 @@ def unit_runs(folder):
     with BackEnd() as back_end:
         settings = root / "etc/nimchaes/settings.toml"
         settings.parent.mkdir(parents=True)
-        good = globals_of(port) + tenant("a", back_end, wait=86_400_000)
-        for text, wanted in ((good.replace("parts", "party"), [False, True]), ("[[tenant]]\n", [True, False]),
-                             (good, [True, True])):
-            settings.write_text(text)
-            done = [said(*words)[0] == 0 for words in lines_of(unit, "ExecStartPre")]
-            check(f"before the start, of {text[-40:]!r}", done, wanted)
+        unit_checks(unit, settings, globals_of(port) + tenant("a", back_end, wait=86_400_000))
         words = list(filled(lines_of(unit, "ExecStart")[0], variables))
         with subprocess.Popen(words, stdin=subprocess.DEVNULL, stdout=subprocess.PIPE, stderr=subprocess.PIPE,
                               env={**os.environ, **variables}) as run:
@@ -147,7 +152,9 @@ def unit_runs(folder):
                 with talk.socket.create_connection(("127.0.0.1", port), timeout=MOST) as peer:
                     peer.sendall(head_of("a", 34) + body(1, 1))
                     check("a post", read_message(peer.recv)[:15], b"HTTP/1.1 200 OK")
-                stop = list(filled(lines_of(unit, "ExecStop")[0], variables))
+                # By then the unit may name another port.
+                then = {**variables, "ADMIN": f"127.0.0.1:{free_port()}", "MAINPID": str(run.pid)}
+                stop = list(filled(lines_of(unit, "ExecStop")[0], then))
                 status, told = said(*stop)
                 check("the stop", (status, "draining" in told), (0, True))
                 out, _ = run.communicate(timeout=MOST)
@@ -172,11 +179,15 @@ def package(folder):
     """Debian's tools take the package, which holds what `make install` puts below /usr."""
     if not is_there("dpkg-deb"):
         return
-    file = subprocess.run([sys.executable, str(HERE / "packaging/deb.py"), talk.program, folder], stdout=subprocess.PIPE,
-                          text=True, timeout=MOST, check=True).stdout.strip()
     version = said(talk.program, "--version")[1].split()[-1]
-    fields = dict(line.partition(": ")[::2] for line in said("dpkg-deb", "--field", file)[1].splitlines())
-    check("its fields", (fields["Package"], fields["Version"]), ("nimchaes", f"{version}-1"))
+    # Of two builds the later one is the later version, and takes the place of the other.
+    for moment, behind in (("1700000000", "20231114221320"), ("1700000001", "20231114221321")):
+        file = subprocess.run([sys.executable, str(HERE / "packaging/deb.py"), talk.program, folder], stdout=subprocess.PIPE,
+                              env={**os.environ, "SOURCE_DATE_EPOCH": moment}, text=True, timeout=MOST,
+                              check=True).stdout.strip()
+        fields = dict(line.partition(": ")[::2] for line in said("dpkg-deb", "--field", file)[1].splitlines())
+        check("its fields", (fields["Package"], fields["Version"]), ("nimchaes", f"{version}-1+{behind}"))
+        check("one package", [str(found) for found in Path(folder).glob("*.deb")], [file])
     held = Path(folder, "held")
     said("dpkg-deb", "--raw-extract", file, str(held))
     names = {name.replace(".1", ".1.gz") for name in FILES} | {

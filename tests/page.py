@@ -18,7 +18,7 @@ import time
 from pathlib import Path
 
 from serving import browser, runs, talk
-from serving.admin import LookedAfter
+from serving.admin import AdminService
 from serving.browser import Browser
 from serving.talk import BUSY, ERROR, ERRORS, TAKEN, BackEnd, check, request, tenant, wait_for
 
@@ -166,49 +166,54 @@ def three(back_end, slow):
             tenant("search", slow, wait=500, timeout=50, batch=20, queue=40)]
 
 
+def goes_by_keys(page):
+    """The search, the order and the rows of three tenants, by keys alone. What is found, opened and ordered stays so
+    while figures come anew."""
+    page.press("Tab")
+    check("first comes the search", page.value(FOCUSED), "find")
+    page.press("Tab")
+    check("then the order", page.value(FOCUSED), "order")
+    page.press("ArrowDown", "ArrowDown", "ArrowDown")
+    check("an order by name", page.value("document.getElementById('order').value"), "name")
+    check("it is so", page.value(NAMES), ["payments", "search", "shop"])
+    page.press("Tab", "Tab")
+    check("then the rows", page.value(ROW), "search")
+    page.press("Enter")
+    opened = "[...document.querySelectorAll('details')].map(it => it.open)"
+    check("the second is open", page.value(opened), [False, True, False])
+    is_told(page)
+    check("and stays so", page.value(opened), [False, True, False])
+    check("and focused", page.value(ROW), "search")
+    page.press("/")
+    check("back to the search", page.value(FOCUSED), "find")
+    page.press(*"HO")
+    check("what is found", page.value(NAMES), ["shop"])
+    is_told(page)
+    check("and found anew", page.value(NAMES), ["shop"])
+    page.press("Escape")
+    check("all again", len(page.value(NAMES)), 3)
+    page.press(*"zz")
+    check("none", page.value(NAMES), [])
+    page.press("Escape")
+
+
 def by_keyboard(folder):
     """Three tenants under load, at both widths, light and dark: what is found, opened and ordered by keys stays so
     while figures come anew."""
+    names = ("payments", "search", "shop")
     with BackEnd() as back_end, BackEnd(lambda n: TAKEN if n % 8 == 0 else BUSY) as slow, \
-            LookedAfter(folder, three(back_end, slow), senders=8) as service, \
+            AdminService(folder, three(back_end, slow), senders=8) as service, \
             Load(service, POSTS):
         for (width, height), dark in ((size, dark) for size in WIDTHS for dark in (False, True)):
             with Browser(width, height, dark) as page:
                 page.goes(f"http://127.0.0.1:{service.admin}/")
                 is_told(page)
-                check("its rows", sorted(page.value(NAMES)), ["payments", "search", "shop"])
-                page.press("Tab")
-                check("first comes the search", page.value(FOCUSED), "find")
-                page.press("Tab")
-                check("then the order", page.value(FOCUSED), "order")
-                page.press("ArrowDown", "ArrowDown", "ArrowDown")
-                check("an order by name", page.value("document.getElementById('order').value"), "name")
-                check("it is so", page.value(NAMES), ["payments", "search", "shop"])
-                page.press("Tab", "Tab")
-                check("then the rows", page.value(ROW), "search")
-                page.press("Enter")
-                opened = "[...document.querySelectorAll('details')].map(it => it.open)"
-                check("the second is open", page.value(opened), [False, True, False])
-                is_told(page)
-                check("and stays so", page.value(opened), [False, True, False])
-                check("and focused", page.value(ROW), "search")
-                page.press("/")
-                check("back to the search", page.value(FOCUSED), "find")
-                page.press(*"HO")
-                check("what is found", page.value(NAMES), ["shop"])
-                is_told(page)
-                check("and found anew", page.value(NAMES), ["shop"])
-                page.press("Escape")
-                check("all again", len(page.value(NAMES)), 3)
-                page.press(*"zz")
-                check("none", page.value(NAMES), [])
-                page.press("Escape")
+                check("its rows", sorted(page.value(NAMES)), list(names))
+                goes_by_keys(page)
                 figures = {row["tenant"]: row for row in service.told("/tenants")[1]["tenants"]}
                 told = [int(text.replace(",", "")) for text in page.value(ACCEPTED)]
-                check("what was accepted", [0 < here <= figures[name]["accepted"] for here, name in
-                                            zip(told, ("payments", "search", "shop"))], [True] * 3)
-                limits = [[figures[name][f"{word}_limit"] for word in ("rows", "spans", "queued_batches")]
-                          for name in ("payments", "search", "shop")]
+                check("what was accepted", [0 < here <= figures[name]["accepted"] for here, name in zip(told, names)], [True] * 3)
+                limits = [[figures[name][f"{word}_limit"] for word in ("rows", "spans", "queued_batches")] for name in names]
                 check("how full each may be", [[int(most.replace(",", "")) for most in re.findall(r" of ([\d,]*\d)", text)]
                                                for text in page.value(FULL)], limits)
                 is_sound(page, service)
@@ -219,7 +224,7 @@ def thousand(folder):
     with BackEnd() as back_end:
         teams = ("shop", "mail", "auth", "a-team.with.a-long_name")
         names = [f"{team}-{number}" for number in range(250) for team in teams]
-        with LookedAfter(folder, [tenant(name, back_end) for name in names]) as service, \
+        with AdminService(folder, [tenant(name, back_end) for name in names]) as service, \
                 Load(service, {name: (2, 0.2, b"") for name in names[500:504]}):
             for width, height in WIDTHS:
                 with Browser(width, height) as page:
@@ -251,7 +256,7 @@ def with_token(folder):
     file = Path(folder, "token")
     file.write_text(TOKEN + "\n")
     with BackEnd() as back_end, \
-            LookedAfter(folder, [tenant("a", back_end)], "--admin-token-file", str(file)) as service, Browser() as page:
+            AdminService(folder, [tenant("a", back_end)], "--admin-token-file", str(file)) as service, Browser() as page:
         page.goes(f"http://127.0.0.1:{service.admin}/")
         wait_for(lambda: page.value(STATE) == "it wants a token", "it asks for a token")
         for typed, wanted in (("wrong", "it wants a token"), (TOKEN, "as of")):
@@ -271,7 +276,7 @@ def with_token(folder):
 def figures(folder):
     """Figures that were worked out by hand: sums, what was lost first, rates, bars, and each order; a name is text, and a
     tenant that went has no row. It asks two seconds after each answer."""
-    with BackEnd() as back_end, LookedAfter(folder, [tenant("a", back_end)]) as service, Browser() as page:
+    with BackEnd() as back_end, AdminService(folder, [tenant("a", back_end)]) as service, Browser() as page:
         page.goes(f"http://127.0.0.1:{service.admin}/")
         is_told(page)
         times = page.value(ASKED)
@@ -313,7 +318,7 @@ def figures(folder):
 def pictures(folder, to):
     """What the README shows: three tenants under load, one of which loses spans."""
     with BackEnd() as back_end, BackEnd(lambda n: TAKEN if n % 8 == 0 else BUSY) as slow, \
-            LookedAfter(folder, three(back_end, slow), senders=8) as service, \
+            AdminService(folder, three(back_end, slow), senders=8) as service, \
             Load(service, POSTS):
         time.sleep(10)
         for name, size, dark in (("light", (1000, 470), False), ("dark", (1000, 470), True),

@@ -348,60 +348,80 @@ def in_force(*tenants, **globals_of):
             "tenant": [{**smallest["tenant"][0], **tenant} for tenant in tenants]}
 
 
+class Checked:
+    """What `check` says of a text, as it stands in a file."""
+
+    def __init__(self, folder):
+        self.file = Path(folder, "settings.toml")
+
+    def said(self, text, doubts=None):
+        """Its status, and its report. Standard error has to be told these doubts, where they are given, and nothing of a
+        fault."""
+        self.file.write_bytes(text.encode() if isinstance(text, str) else text)
+        status, out, err = ended(["check", str(self.file)])
+        if doubts is not None or status != 0:
+            check(f"standard error of {text!r}", err.decode(), doubts or "")
+        return status, out.decode()
+
+
+def checks_texts(checked):
+    """Of documents that are good, faulty, doubtful, and have unknown keys."""
+    said = checked.said
+    check("the smallest document", said(TENANT, FEW_SENDERS), (0, IN_FORCE))
+    check("all of its settings", said(IN_FORCE, FEW_SENDERS), (0, IN_FORCE))
+    for text, told in FAULTY:
+        status, out = said(text)
+        check(text, (status, out[: len(told)]), (1, told))
+        check(f"lines of {text!r}", out.count("\n"), told.count("\n") + (2 if text == "name =" else 0))
+    check("no UTF-8", said(b"\xff"), (1, "settings fault 10\nthe file is not UTF-8\n"))
+    for before, text, told, *meant in UNKNOWN:
+        hint = f"; perhaps {meant[0]} was meant" if meant else ""
+        check(text, said(before + text), (0, f"# warning: {told}, so it is ignored{hint}\n" + IN_FORCE))
+    both = said(TENANT.replace("policy]]", "polcy]]"))
+    check("a warning beside a fault", both[1].split("\n")[0::3], ["settings fault 11 policy", "# warning: tenant 1 (a), "
+          "table tail_sampling: no setting has the key polcy, so it is ignored"])
+    for doubts, text in DOUBTS:
+        check(f"the status of {text!r}", said(text, doubts)[0], 0)
+    cached = TENANT + "[tenant.tail_sampling.decision_cache]\nsampled_cache_size = 2\nnon_sampled_cache_size = 1\n"
+    sizes = IN_FORCE.replace("non_sampled_cache_size = 0\nsampled_cache_size = 0", "non_sampled_cache_size = 1\n"
+                             "sampled_cache_size = 2")
+    check("sizes of caches", said(cached), (0, sizes))
+    check("sizes of caches twice", said(sizes), (0, sizes))
+
+
+def checks_examples(checked):
+    """Of the documents of examples/ and of docs/SETTINGS.md."""
+    said = checked.said
+    for example, (globals_of, tenants) in FROM_THE_COLLECTOR.items():
+        status, out = said((HERE / "examples/from-the-collector" / example).read_text(), "")
+        check(f"what {example} says", (status, tomllib.loads(out)), (0, in_force(*tenants, **{"senders": 10, **globals_of})))
+    blocks = re.findall("^```toml\n(.*?)^```$", (HERE / "docs/SETTINGS.md").read_text(), re.M | re.S)
+    check("documents of docs/SETTINGS.md", len(blocks) > 10, True)
+    for example in blocks:
+        status, out = said(example)
+        check(f"{example!r} of docs/SETTINGS.md", (status, out.partition("\n")[0]), (0, "# the settings in force"))
+    for example in sorted((HERE / "examples").rglob("*.toml")):
+        status, out = said(example.read_text())
+        check(f"{example.name} is good", (status, "# warning" in out), (0, False))
+        check(f"{example.name} twice", said(out), (0, out))
+        if example.name in IN_EXAMPLES:
+            check(f"what {example.name} says", tomllib.loads(out), in_force(*IN_EXAMPLES[example.name]))
+
+
 def checks():
     """What `check` says of documents; what it prints of a good one is a document that it says the same of."""
     with tempfile.TemporaryDirectory() as folder:
-        file = Path(folder, "settings.toml")
-
-        def said(text, doubts=None):
-            file.write_bytes(text.encode() if isinstance(text, str) else text)
-            status, out, err = ended(["check", str(file)])
-            if doubts is not None or status != 0:
-                check(f"standard error of {text!r}", err.decode(), doubts or "")
-            return status, out.decode()
-
-        check("the smallest document", said(TENANT, FEW_SENDERS), (0, IN_FORCE))
-        check("all of its settings", said(IN_FORCE, FEW_SENDERS), (0, IN_FORCE))
-        for text, told in FAULTY:
-            status, out = said(text)
-            check(text, (status, out[: len(told)]), (1, told))
-            check(f"lines of {text!r}", out.count("\n"), told.count("\n") + (2 if text == "name =" else 0))
-        check("no UTF-8", said(b"\xff"), (1, "settings fault 10\nthe file is not UTF-8\n"))
-        for before, text, told, *meant in UNKNOWN:
-            hint = f"; perhaps {meant[0]} was meant" if meant else ""
-            check(text, said(before + text), (0, f"# warning: {told}, so it is ignored{hint}\n" + IN_FORCE))
-        both = said(TENANT.replace("policy]]", "polcy]]"))
-        check("a warning beside a fault", both[1].split("\n")[0::3], ["settings fault 11 policy", "# warning: tenant 1 (a), "
-              "table tail_sampling: no setting has the key polcy, so it is ignored"])
-        for doubts, text in DOUBTS:
-            check(f"the status of {text!r}", said(text, doubts)[0], 0)
-        cached = TENANT + "[tenant.tail_sampling.decision_cache]\nsampled_cache_size = 2\nnon_sampled_cache_size = 1\n"
-        sizes = IN_FORCE.replace("non_sampled_cache_size = 0\nsampled_cache_size = 0", "non_sampled_cache_size = 1\n"
-                                 "sampled_cache_size = 2")
-        check("sizes of caches", said(cached), (0, sizes))
-        check("sizes of caches twice", said(sizes), (0, sizes))
+        checked = Checked(folder)
+        checks_texts(checked)
+        checks_examples(checked)
         missing = str(Path(folder, "missing"))
         told = f"input or output fault\n{missing}: No such file or directory (os error 2)\n".encode()
         check("no file to check", ended(["check", missing]), (1, b"", told))
-        for example, (globals_of, tenants) in FROM_THE_COLLECTOR.items():
-            status, out = said((HERE / "examples/from-the-collector" / example).read_text(), "")
-            check(f"what {example} says", (status, tomllib.loads(out)), (0, in_force(*tenants, **{"senders": 10, **globals_of})))
-        blocks = re.findall("^```toml\n(.*?)^```$", (HERE / "docs/SETTINGS.md").read_text(), re.M | re.S)
-        check("documents of docs/SETTINGS.md", len(blocks) > 10, True)
-        for example in blocks:
-            status, out = said(example)
-            check(f"{example!r} of docs/SETTINGS.md", (status, out.partition("\n")[0]), (0, "# the settings in force"))
-        for example in sorted((HERE / "examples").rglob("*.toml")):
-            status, out = said(example.read_text())
-            check(f"{example.name} is good", (status, "# warning" in out), (0, False))
-            check(f"{example.name} twice", said(out), (0, out))
-            if example.name in IN_EXAMPLES:
-                check(f"what {example.name} says", tomllib.loads(out), in_force(*IN_EXAMPLES[example.name]))
         with open("/dev/full", "wb") as full:
             told = b"input or output fault\nstandard output: No space left on device (os error 28)\n"
             check("a full disk at a check", ended(["check", SETTINGS], stdout=full), (1, None, told))
-            file.write_text(TENANT)
-            check("a full disk for doubts", ended(["check", str(file)], stderr=full), (0, IN_FORCE.encode(), None))
+            checked.file.write_text(TENANT)
+            check("a full disk for doubts", ended(["check", str(checked.file)], stderr=full), (0, IN_FORCE.encode(), None))
 
 
 FAULTS = HERE / "docs/FAULTS.md"

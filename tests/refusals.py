@@ -31,7 +31,7 @@ KNOWN = [
     ("text_pool/src/pool.rt", "put", 1, "the same of a text"),
     ("tenant_pipeline/src/outbox.rt", "offer", 1, "the queue gives the batch back with its want of memory"),
     ("tenant_pipeline/src/unsent.rt", "write", 1, "the queue gives the batch back with its want of memory"),
-    ("tail_settings/src/document.rt", "table", 1, "the TOML reader's error says that it is want of memory"),
+    ("tail_settings/src/parsed.rt", "parse", 1, "the TOML reader's error says that it is want of memory"),
     ("trace_collector_program/src/serve.rt", "from", 1, "a thread wasn't started for want of what one is started with"),
     ("tenant_shard/src/shard.rt", "run", 2, "room for the outcomes was refused, or a step was"),
     ("trace_service/src/post.rt", "without_memory", 1, "the reply itself"),

@@ -16,8 +16,8 @@ import subprocess
 import sys
 from pathlib import Path
 
-from serving import (admin, agreement, back_ends, bodies, clients, comings, ending, late, limits, loopback, memory,
-                     rest, short, talk)
+from serving import (admin, agreement, back_ends, bodies, clients, comings, ending, exporters, late, limits, loopback, memory,
+                     metrics, rest, short, talk)
 from serving.runs import end, run
 
 HERE = Path(__file__).resolve().parent.parent
@@ -40,10 +40,10 @@ def named(*tests):
     return dict(zip(names, tests))
 
 
-TESTS = named(*loopback.TESTS, *clients.TESTS, *back_ends.TESTS, *late.TESTS, *comings.TESTS, *limits.TESTS, *bodies.TESTS,
-              *rest.TESTS, *ending.TESTS, *memory.TESTS, *admin.TESTS, *short.TESTS, agree)
+TESTS = named(*loopback.TESTS, *exporters.TESTS, *clients.TESTS, *back_ends.TESTS, *late.TESTS, *comings.TESTS, *limits.TESTS, *bodies.TESTS,
+              *rest.TESTS, *ending.TESTS, *memory.TESTS, *admin.TESTS, *metrics.TESTS, *short.TESTS, agree)
 # Those of these names alone.
-BY_HAND = named(*short.BY_HAND, *admin.BY_HAND)
+BY_HAND = named(*short.BY_HAND, *metrics.BY_HAND)
 
 
 def main():

@@ -28,7 +28,7 @@ from pathlib import Path
 
 from refused import built
 from serving import talk
-from serving.admin import LookedAfter
+from serving.admin import AdminService
 from serving.runs import end
 from serving.talk import (ERROR, ERRORS, MOST, NAMES, BackEnd, Service, check, line_of, read_message, request, tenant,
                           wait_for)
@@ -418,7 +418,7 @@ class AuditedEnd(Draining):
 class DrainedByCall(Draining):
     """The same by a call at the admin port: who is told want of memory may ask again."""
 
-    KIND, GOOD, MEMORY = LookedAfter, {200}, {503}
+    KIND, GOOD, MEMORY = AdminService, {200}, {503}
 
     def ask(self):
         return self.service.ask("/drain", "POST")[0]
@@ -439,7 +439,7 @@ class DrainedByCall(Draining):
 class Looked(Case):
     """What is looked at at the admin port."""
 
-    KIND, TARGET = LookedAfter, "/"
+    KIND, TARGET = AdminService, "/"
     # Figures that change by themselves.
     OTHER = re.compile(rb"(?m)^(nimchaes_(memory|connections|received|sent|requests|turns|idle)_|otelcol_process_)\S* .*$")
 
@@ -474,7 +474,7 @@ LOOKED = [type(f"Looked{target}", (Looked,), {"TARGET": target}) for target in (
 class Added(Coming):
     """A tenant that comes by a call. Who is told want of memory looks whether it came."""
 
-    KIND, GOOD, MEMORY = LookedAfter, {201}, {503}
+    KIND, GOOD, MEMORY = AdminService, {201}, {503}
 
     def begin(self):
         self.lines = []

@@ -26,7 +26,7 @@ import time
 from pathlib import Path
 
 from serving import talk
-from serving.admin import LookedAfter
+from serving.admin import AdminService
 from serving.runs import end
 from serving.talk import BUSY, ERROR, ERRORS, MOST, NAMES, TAKEN, BackEnd, check, head_of, read_message, request
 
@@ -345,7 +345,7 @@ def soaked(folder, minutes, rate):
     lives += [Life(STEADY + place, f"guest-{place}", OF_GUESTS[place % len(OF_GUESTS)]) for place in range(PLACES)]
     ends = {kind: End(kind, lives).__enter__() for kind in kinds}
     options = [word for name, value in OPTIONS.items() for word in (f"--{name}", str(value))]
-    with LookedAfter(folder, [section(life, ends) for life in lives], *options, shards=4) as service:
+    with AdminService(folder, [section(life, ends) for life in lives], *options, shards=4) as service:
         service.watch.cancel()
         threading.Thread(target=heard, args=(service, lines), daemon=True).start()
         soak = Soak(service, rate, ends, lives)

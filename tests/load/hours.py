@@ -24,7 +24,6 @@ import tempfile
 import threading
 import time
 from contextlib import suppress
-from pathlib import Path
 
 import measure
 from measure import free_port, numbers, on, wait_for

@@ -9,8 +9,10 @@ these too (values.pb), or so with each event's name before its time (named.pb) a
 (client.pb). Half of oneN.pb and scopesN.pb, of some N bytes, is attributes of one resource, half is spans of 30
 bytes, in one scope or each in a scope of its own. emptyN.pb is spans of no fields. Each of the others has 100 spans
 of some 480 bytes, with 19 fields each: in their order (ordered.pb), with the flags before the name (flags.pb), there
-with a count of 0 besides (count.pb), with the name at the end (last.pb), in reverse order (reverse.pb), and so with
-the name twice (twice.pb)."""
+with a count of 0 besides (count.pb), with the name at the end (last.pb), in reverse order (reverse.pb), so with the
+name twice (twice.pb), with the end's time twice (time.pb), or the status (status.pb), and with each attribute's value
+before its key (keys.pb) or the lengths of its key and its text in four bytes (texts.pb). Each event, link and status
+of the stored body is written in reverse order in events.pb."""
 import pathlib
 import struct
 import sys
@@ -143,6 +145,25 @@ def name_first(content):
     return b"".join(piece(11, event(text)) if number == 11 else spelled for number, text, spelled in fields(content))
 
 
+def each_inside(numbers, change):
+    """A span with the text of each of these fields changed so."""
+    def span(content):
+        return b"".join(piece(number, change(text)) if number in numbers else spelled
+                        for number, text, spelled in fields(content))
+
+    return span
+
+
+def reversed_fields(content):
+    return b"".join(spelled for _, _, spelled in reversed(fields(content)))
+
+
+def long_texts(content):
+    """An attribute with the lengths of its key and of the text that is its value in four bytes."""
+    (_, key, _), (_, value, _) = fields(content)
+    return long_piece(1, key) + piece(2, b"".join(long_piece(1, text) for _, text, _ in fields(value)))
+
+
 def some(size, make):
     found, length = [], 0
     while length < size:
@@ -213,6 +234,8 @@ ORDERS = {
     "last": lambda fields: [field for field in fields if field[0] != 5] + fields[3:4],
     "reverse": lambda fields: sorted(fields, key=lambda field: -field[0]),
     "twice": lambda fields: [(5, piece(5, b"n")), *ORDERS["reverse"](fields)],
+    "time": lambda fields: fields + [field for field in fields if field[0] == 8],
+    "status": lambda fields: fields[:-1] + fields[-2:],
 }
 
 
@@ -238,6 +261,9 @@ def main():
         bodies[f"scopes{size}"] = scopes(size)
     bodies["empty4194304"] = empty(4194304)
     bodies |= {name: ordered(order) for name, order in ORDERS.items()}
+    bodies |= {"keys": changed(bodies["ordered"], each_inside({9}, reversed_fields)),
+               "texts": changed(bodies["ordered"], each_inside({9}, long_texts)),
+               "events": changed(stored, each_inside({11, 13, 15}, reversed_fields))}
     for name, body in bodies.items():
         (folder / f"{name}.pb").write_bytes(body)
         print(name, len(body))

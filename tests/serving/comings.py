@@ -7,12 +7,15 @@ from pathlib import Path
 from types import SimpleNamespace
 
 from serving.agreement import SPAN, body_of, compare
-from serving.talk import (BackEnd, Service, body, check, head_of, in_threads, line_of, read_message, request, tenant,
-                          wait_for)
+from serving.talk import (ERRORS, BackEnd, Service, body, check, head_of, in_threads, line_of, read_message, request,
+                          tenant, wait_for)
 
 # So many come and go, one after the other, in the test of memory, and beside others.
 ROUNDS = 200
 BESIDE = 30
+# So often a tenant comes whose document has about so many bytes.
+LARGE_ROUNDS = 8
+LARGE = 1_000_000
 # Pages that one round may leave behind, in kB: a tenant without spans takes 4, its span 10.
 MOST_A_ROUND = 1
 FORBIDDEN = (403, b"\x12\x0eunknown tenant")
@@ -209,6 +212,49 @@ def beside_others(folder):
         check("what came of those that went", found == Counter(told["c"]), True)
 
 
+def large(section):
+    """A document of this section and of keys that no setting has."""
+    keys = (f"k{number} = [1, 2, 3, 4, 5, 6, 7, 8, 9]\n" for number in range(LARGE // 33))
+    return section + "[unread]\n" + "".join(keys)
+
+
+def longest_wait(waits, begin, end):
+    """For how much of the time from `begin` to `end` a single one of these waits was on."""
+    return max(min(last, end) - max(first, begin) for first, last in waits)
+
+
+def beside_a_large_document(folder):
+    """While a large document is parsed no message of another tenant waits for it: in most rounds no post waits for half
+    as long as the tenant of the document takes to come."""
+    rounds, waits, over = [], [], threading.Event()
+    with BackEnd() as back_end, Service(folder, [tenant("a", back_end, policies=ERRORS)]) as service:
+        path = document(folder, large(tenant("c", back_end)))
+
+        def steady():
+            with service.connect() as peer:
+                while not over.is_set():
+                    begin = time.monotonic()
+                    check("a post", service.post("a", body(1, 1), peer), (200, b""))
+                    waits.append((begin, time.monotonic()))
+
+        def come_and_go():
+            try:
+                wait_for(lambda: waits, "posts are answered")
+                for number in range(LARGE_ROUNDS):
+                    begin = time.monotonic()
+                    check("it comes", added(service, path), f"added c {number + 1}\n")
+                    rounds.append((begin, time.monotonic()))
+                    check("it goes", retired(service, "c"), line_of("c"))
+            finally:
+                over.set()
+
+        in_threads(come_and_go, steady)
+        check("the end", service.end(), (0, line_of("a", accepted=len(waits), not_sampled=len(waits)), b""))
+    shares = [longest_wait(waits, *times) / (times[1] - times[0]) for times in rounds]
+    brief = sum(share < 0.5 for share in shares)
+    check(f"how much of each coming one post waited: {shares}", brief > LARGE_ROUNDS // 2, True)
+
+
 def memory_of(service):
     """How much memory the process has, in kB."""
     status = Path(f"/proc/{service.run.pid}/status").read_text()
@@ -249,4 +295,4 @@ def memory_of_many(folder, rounds):
 
 
 TESTS = (without_spans, with_spans, with_an_audit, refused_documents, while_it_goes, while_its_body_comes, beside_others,
-         memory_comes_back)
+         beside_a_large_document, memory_comes_back)

@@ -4,7 +4,7 @@ import time
 import uuid
 from pathlib import Path
 
-from serving.admin import LookedAfter
+from serving.admin import AdminService
 from serving.talk import TAKEN, BackEnd, Service, body, check, in_threads, request, tenant, wait_for
 
 SHARDS = 16
@@ -90,7 +90,7 @@ def rests_until_something_is_due(folder):
 def idle_turns_beside_posts(folder, apart=0, **how):
     """How many turns a second found nothing in the one shard of a tenant with such a section, while clients post, each
     so many seconds behind its last reply."""
-    with BackEnd() as back_end, LookedAfter(folder, [tenant("a", back_end, **how)], shards=1) as service:
+    with BackEnd() as back_end, AdminService(folder, [tenant("a", back_end, **how)], shards=1) as service:
         posts = []
 
         def client():

@@ -8,9 +8,9 @@ use std::test::Fail;
 /// A name, a span's text, and what it is in order: hexadecimal digits, `-` for no bytes, and `none` where the text has
 /// none or isn't looked at further.
 const SPANS: &str = "\
-no_bytes - none\n\
-one_field 2a016e none\n\
-in_order_already 0a01311201322a016e none\n\
+no_bytes - -\n\
+one_field 2a016e 2a016e\n\
+in_order_already 0a01311201322a016e 0a01311201322a016e\n\
 two_fields 1201320a0131 0a0131120132\n\
 # Flags where they are declared, a name at the end, a trace id there.\n\
 flags_before_the_name 0a01311201328501010000002a016e3002 0a01311201322a016e3002850101000000\n\
@@ -24,8 +24,8 @@ flags_before_the_name_and_not_known 8501010000002a016ea00600 2a016e850101000000a
 flags_of_none_before_the_name 8501000000002a016e 2a016e\n\
 flags_before_the_name_and_an_id_behind 8501010000002a016e0a0131 0a01312a016e850101000000\n\
 # Flags twice: the last of them count.\n\
-flags_twice 8501010000002a016e850102000000 none\n\
-flags_and_then_none 8501010000002a016e850100000000 none\n\
+flags_twice 8501010000002a016e850102000000 2a016e850102000000\n\
+flags_and_then_none 8501010000002a016e850100000000 2a016e\n\
 a_name_at_the_end 0a013130027a002a016e 0a01312a016e30027a00\n\
 a_trace_id_at_the_end 12013222013330020a0131 0a01311201322201333002\n\
 each_field_in_reverse \
@@ -54,15 +54,56 @@ a_default_in_an_event 5a0512016520000a0131 0a01315a03120165\n\
 defaults_everywhere 850101000000700060005000300122000a01317a0218005a051201652000 \
 0a013130015a031201657a00850101000000\n\
 # One that stands behind its own field may take it back.\n\
-a_default_behind_its_own_field 2a016e2201332200 none\n\
-a_default_twice 2a016e22002200 none\n\
+a_default_behind_its_own_field 2a016e2201332200 2a016e\n\
+a_default_twice 2a016e22002200 2a016e\n\
 # In order the text still isn't canonical.\n\
-a_name_twice 2a016e0a01312a016f none\n\
+a_name_twice 2a016e0a01312a016f 0a01312a016f\n\
 a_status_twice 7a002a016e7a00 none\n\
-a_length_in_more_bytes 2a81006e0a0131 none\n\
-a_tag_in_more_bytes aa00016e0a0131 none\n\
+a_length_in_more_bytes 2a81006e0a0131 0a01312a016e\n\
+a_tag_in_more_bytes aa00016e0a0131 0a01312a016e\n\
 a_name_that_is_no_text 2a01ff0a0131 none\n\
-a_status_out_of_order 7a05180112016d0a0131 none\n\
+a_status_out_of_order 7a05180112016d0a0131 0a01317a0512016d1801\n\
+# What isn't canonical in an attribute.\n\
+an_empty_key_in_an_attribute 4a070a0012030a0176 4a0512030a0176\n\
+an_attribute_of_an_empty_key 4a020a00 4a00\n\
+a_key_twice 4a0b0a016a0a016b12030a0176 4a080a016b12030a0176\n\
+a_key_behind_its_value 4a0812030a01760a016b 4a080a016b12030a0176\n\
+a_long_string 4a0b0a016b12060a8180800076 4a080a016b12030a0176\n\
+a_long_key_of_a_bool 4a0a0a818080006b12021001 4a070a016b12021001\n\
+a_number_in_more_bytes 4a080a016b1203188500 4a070a016b12021805\n\
+a_double_behind_a_long_tag 4a0f0a016b120aa1000101010101010101 4a0e0a016b1209210101010101010101\n\
+bytes_in_more_bytes 4a0b0a016b12063a81808000ff 4a080a016b12033a01ff\n\
+an_empty_value_behind_a_long_length 4a080a016b1280808000 4a050a016b1200\n\
+a_long_array 4a140a016b120f2a8a8080000a838080000a01760a00 4a0e0a016b12092a070a030a01760a00\n\
+a_long_list 4a200a016b121b32968080000a888080000a016b12030a01760a07120210010a016a \
+4a1a0a016b121532130a080a016b12030a01760a070a016a12021001\n\
+an_array_in_an_array 4a120a016b120d2a0b0a092a070a828080001000 4a0f0a016b120a2a080a062a040a021000\n\
+a_key_that_is_no_text_twice 4a0b0a01ff0a016b12030a0176 none\n\
+two_values_in_an_attribute 4a0c0a016b12030a017612021001 none\n\
+two_members_of_a_value 4a0a0a016b12050a01761001 none\n\
+a_bool_of_two 4a070a016b12021002 none\n\
+a_field_that_is_not_known_before_a_key 4a0a20010a016b12030a0176 none\n\
+# Events, links and a status whose fields are in another order, or stand twice.\n\
+an_event_in_reverse 5a1820031a080a016b12030a0176120165090101010101010101 \
+5a180901010101010101011201651a080a016b12030a01762003\n\
+an_event_with_attributes_first 5a121a080a016b12030a01761201651a030a016a 5a121201651a080a016b12030a01761a030a016a\n\
+a_link_in_reverse 6a1a3501000000280222080a016b12030a01761a01731201320a0131 \
+6a1a0a01311201321a017322080a016b12030a017628023501000000\n\
+a_status_with_its_code_first 7a05180212016d 7a0512016d1802\n\
+a_time_twice_in_an_event 5a12090101010101010101090202020202020202 5a09090202020202020202\n\
+a_field_that_is_not_known_first_in_an_event 5a06a00601120165 5a06120165a00601\n\
+an_event_out_of_order_between_canonical_ones 5a031201655a0520011201665a03120167 5a031201655a0512016620015a03120167\n\
+an_event_whose_name_is_no_text 5a0520011201ff none\n\
+# Of a field of one value the last one counts.\n\
+a_kind_twice_apart 30012a016e3002 2a016e3002\n\
+a_name_three_times 2a016c2a016d2a016e 2a016e\n\
+a_name_and_then_none 2a016e0a01312a00 0a0131\n\
+a_time_of_none_and_a_time 390000000000000000390101010101010101 390101010101010101\n\
+each_id_twice 0a01611201622201632201641201650a0166 0a0166120165220164\n\
+a_name_that_is_no_text_and_a_name 2a01ff2a016e none\n\
+a_trace_state_that_is_no_text_before_one 1a01ff1a0173 none\n\
+a_count_in_more_bytes 508300 5003\n\
+a_kind_of_more_bits 308280808010 none\n\
 # These aren't fields.\n\
 cut 2a016e0a013130 none\n\
 flags_cut 2a016e0a01318501000000 none\n\

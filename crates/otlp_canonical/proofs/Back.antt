@@ -1,5 +1,5 @@
 -- A text that is written of a sound value is read as that value.
-use Rattle.std.proofs.Common.{ℕ, List, sym, ap, subst, ◌∙◌}
+use Rattle.std.proofs.Common.{◌≡◌, ℕ, List, Option, Some, None, IfSome, sym, ap, subst, ◌∙◌}
 use Rattle.otlp_trace.specs.Data.{ResourceData, ScopeData, SpanData, RequestData}
 use Rattle.otlp_trace.specs.Text.{resource_text, scope_text, span_text, request_text}
 use Rattle.otlp_read.specs.RoundTrip.{IsShort, RequestReadsBack, SpanReadsBack, ResourceReadsBack, ScopeReadsBack}
@@ -7,7 +7,7 @@ use Rattle.otlp_read.specs.Typed.{TypedResource, TypedScope, TypedSpan, TypedReq
 use Rattle.otlp_trace.specs.Defaults.{no_resource, no_scope, no_span}
 use Rattle.otlp_read.specs.Value.{resource_step, scope_step, span_step, IsValue}
 use Rattle.otlp_read.specs.Walk.{read_with}
-use Rattle.otlp_canonical.specs.Canonical.{CanonicalSpan, CanonicalResource, CanonicalScope, CanonicalRequest}
+use Rattle.otlp_canonical.specs.Canonical.{CanonicalCopy, CanonicalSpan, CanonicalResource, CanonicalScope, CanonicalRequest}
 use Rattle.otlp_canonical.specs.Parts.{Whole}
 use Rattle.otlp_canonical.specs.Sound.{SoundResource, SoundScope, SoundSpan, SoundRequest}
 
@@ -54,3 +54,12 @@ request_canonical text w short law =
       typed = w.sound.typed;
       nested = w.sound.nested;
     }
+
+-- a canonical copy of a text of which a reader makes the same
+pub copy_of_same : (room : ℕ) (text same copy : List ℕ) → read_with span_step room no_span text ≡ read_with span_step room no_span same → CanonicalCopy room same copy → CanonicalCopy room text copy
+copy_of_same room text same copy is c = record { canonical = c.canonical; same = is ∙ c.same }
+
+pub some_copy : {V : Type 0} (items : V → List ℕ) (room : ℕ) (text same : List ℕ) (found : Option V) → read_with span_step room no_span text ≡ read_with span_step room no_span same → IfSome found (λ v. CanonicalCopy room same (items v))
+    → IfSome found (λ v. CanonicalCopy room text (items v))
+some_copy items room text same None is c = tt
+some_copy items room text same (Some v) is c = copy_of_same room text same (items v) is c

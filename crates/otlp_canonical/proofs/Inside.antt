@@ -28,7 +28,7 @@ held_found d n text bs rest some fits short is =
     ap (next_at d) is ∙ begins_at d (bytes_field n bs) rest (holding n bs) (field_written d (holding n bs) some fits short)
 
 -- where the field makes of each message what one with other bytes makes, that can be put in its place
-put_field : {A : Type 0} (step : ℕ → Step A) (Above : ℕ → A → Type 0) (inner d most n : ℕ) (bs put old new : List ℕ) → 0 < n → n < 2 ^ 29 → length put < 2 ^ 64 → new ≡ old ++ bytes_field n put
+pub put_field : {A : Type 0} (step : ℕ → Step A) (Above : ℕ → A → Type 0) (inner d most n : ℕ) (bs put old new : List ℕ) → 0 < n → n < 2 ^ 29 → length put < 2 ^ 64 → new ≡ old ++ bytes_field n put
     → ((a : A) (spelled other : List ℕ) → Above most a → step inner a (holding n put) spelled ≡ step inner a (holding n bs) other)
     → PutFor step Above inner d most (holding n bs) old new
 put_field step Above inner d most n bs put old new some fits short copied same =

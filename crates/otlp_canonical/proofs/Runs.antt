@@ -1,16 +1,17 @@
 -- A text's fields are found place by place.
-use Rattle.std.proofs.Common.{◌≡◌, ◌≢◌, ◌==◌, ℕ, zero, suc, ◌+◌, false, arith, List, [], ◌∷◌, ◌++◌, length, length-append, set, slice_get, replicate, Some, Ok, refl, sym, ap, subst, ◌∙◌, append_assoc, append-nil}
+use Rattle.std.proofs.Common.{◌≡◌, ◌≢◌, ◌==◌, ℕ, zero, suc, ◌+◌, Bool, true, false, not, ◌&&◌, arith, List, [], ◌∷◌, ◌++◌, length, length-append, set, slice_get, replicate, Some, Ok, refl, sym, ap, subst, ◌∙◌, append_assoc, append-nil}
 use Rattle.std.proofs.lemmas.Bool.{eqb-true}
 use Rattle.std.proofs.lemmas.Bool.Decides.{nat_tests}
+use Rattle.std.specs.List.{AllByRecursion}
 use Rattle.pb_wire.specs.Grammar.{Entry, IsField}
 use Rattle.pb_wire.specs.Reading.{next_at}
 use Rattle.pb_wire.proofs.Again.{next_takes}
-use Rattle.otlp_read.specs.Walk.{no_pieces, before}
-use Rattle.otlp_read.proofs.Sound.{by_test}
+use Rattle.otlp_read.specs.Walk.{Piece, Pieces, no_pieces, before}
+use Rattle.otlp_read.proofs.Sound.{by_test, each_push}
 use Rattle.otlp_canonical.specs.declared.order.Run.{Run}
-use Rattle.otlp_canonical.specs.Order.{place_of, WithPlaces, SideBySide, Stands, with_one, AllStand}
+use Rattle.otlp_canonical.specs.Order.{place_of, last_wins, IsSoundText, PlaceRead, SideBySide, Stands, with_one, with_field, AllStand}
 use Rattle.otlp_canonical.proofs.Parts.{nothing}
-use Rattle.otlp_canonical.proofs.Sorted.{pieces_append, one_piece, piece, is_in, in_range, put_more, put_same, passed_on, Passing, one_put, one_left}
+use Rattle.otlp_canonical.proofs.Sorted.{pieces_append, one_piece, piece, is_in, in_range, read_more, read_same, read_last, passed_on, Passing, one_put, one_left}
 
 -- ---- one place
 
@@ -23,7 +24,7 @@ none_by d place = record {
   parts = refl;
   starts = refl;
   ends = refl;
-  all = record { pieces = []; are = no_pieces; put = []; chosen = no_pieces; copied = refl };
+  all = record { pieces = []; are = no_pieces; put = []; chosen = []; chosen_are = no_pieces; copied = refl; same = λ room s t rest made. made };
 }
 
 -- a field of this place, behind all that were met
@@ -42,7 +43,7 @@ grown d start end gone front e run first starts ends stands =
       parts = ap (λ (t : List ℕ). gone ++ t) (sym (append-nil front));
       starts = starts;
       ends = ends;
-      all = put_more d k (suc k) gone [] [] front front e first (in_range k (suc k) e (omega arith) (omega arith)) refl (subst (λ (t : List ℕ). WithPlaces d k (suc k) gone [] t) none s.all);
+      all = read_more d k gone [] [] front front e first (in_range k (suc k) e (omega arith) (omega arith)) refl (subst (λ (t : List ℕ). PlaceRead d k gone [] t) none s.all);
     }) λ some.
     by_test (run.end == start)
     (λ next. rw (some, next) λ beside.
@@ -58,8 +59,27 @@ grown d start end gone front e run first starts ends stands =
       parts = ap (λ (t : List ℕ). t ++ front) all_gone ∙ append_assoc s.before s.fields front ∙ ap (λ (t : List ℕ). s.before ++ t) (sym (append-nil (s.fields ++ front)));
       starts = s.starts;
       ends = (let a = length-append s.fields front in let b = s.ends in omega arith);
-      all = put_more d k (suc k) gone [] s.fields (s.fields ++ front) front e first (in_range k (suc k) e (omega arith) (omega arith)) refl s.all;
+      all = read_more d k gone [] s.fields (s.fields ++ front) front e first (in_range k (suc k) e (omega arith) (omega arith)) refl s.all;
     }) λ apart. rw (some, apart) λ beside. absurd (cc)
+
+both : (empty wins : Bool) → (not empty && wins) ≡ true → wins ≡ true
+both true wins is = absurd (cc)
+both false wins is = is
+
+-- the same, and in the place of one that stood there where the last one wins
+kept : (d start end : ℕ) (gone front : List ℕ) (e : Entry) (run : Run) (pieces : List Piece) → IsField d front e → start ≡ length gone → end ≡ length gone + length front → IsSoundText e → Pieces d gone pieces → AllByRecursion (λ p. IsSoundText p.field) pieces
+    → Stands d (place_of e) gone run → Stands d (place_of e) (gone ++ front) (with_field (place_of e) run start end)
+kept d start end gone front e run pieces first starts ends sound are all stands =
+    by_test (not (run.start == run.end) && last_wins (place_of e))
+    (λ later. rw later λ beside. record {
+      before = gone;
+      fields = front;
+      behind = [];
+      parts = ap (λ (t : List ℕ). gone ++ t) (sym (append-nil front));
+      starts = starts;
+      ends = ends;
+      all = read_last d (place_of e) gone front pieces e first (both (run.start == run.end) (last_wins (place_of e)) later) refl sound are all;
+    }) λ many. rw many (grown d start end gone front e run first starts ends stands)
 
 elsewhere : (place : ℕ) (e : Entry) → place ≢ place_of e → is_in place (suc place) e ≡ false
 elsewhere place e other = grind (arith, nat_tests, other)
@@ -75,7 +95,7 @@ stayed d place gone front e run first other stands beside =
       parts = ap (λ (t : List ℕ). t ++ front) s.parts ∙ append_assoc s.before (s.fields ++ s.behind) front ∙ ap (λ (t : List ℕ). s.before ++ t) (append_assoc s.fields s.behind front);
       starts = s.starts;
       ends = s.ends;
-      all = put_same d place (suc place) gone [] s.fields front e first (elsewhere place e other) s.all;
+      all = read_same d place gone [] s.fields front e first (elsewhere place e other) s.all;
     }
 
 -- ---- all places
@@ -110,25 +130,27 @@ none_found d n text empty starts ends = record {
   so_far = record {
     pieces = [];
     are = no_pieces;
+    sound = tt;
     each = λ place run at beside. let same = of_many n place empty run at in rw (same, starts, ends) (none_by d place);
   };
 }
 
 -- one more
-pub one_found : (d start end : ℕ) (text left rest : List ℕ) (runs : List Run) (run : Run) (e : Entry) → next_at d left ≡ Ok (Some (e, rest)) → start + length left ≡ length text → end + length rest ≡ length text → slice_get runs (place_of e) ≡ Some run
-    → Found d text left runs → Found d text rest (set runs (place_of e) (with_one run start end))
-one_found d start end text left rest runs run e found starts ends at f =
+pub one_found : (d start end : ℕ) (text left rest : List ℕ) (runs : List Run) (run : Run) (e : Entry) → next_at d left ≡ Ok (Some (e, rest)) → start + length left ≡ length text → end + length rest ≡ length text → slice_get runs (place_of e) ≡ Some run → IsSoundText e
+    → Found d text left runs → Found d text rest (set runs (place_of e) (with_field (place_of e) run start end))
+one_found d start end text left rest runs run e found starts ends at sound f =
     let b = next_takes d left e rest found in
     let all : length text ≡ length f.gone + length left = ap (λ (t : List ℕ). length t) f.parts ∙ length-append f.gone left in
     let here : length left ≡ length b.front + length rest = ap (λ (t : List ℕ). length t) b.parts ∙ length-append b.front rest in
-    let new = with_one run start end in
-    let stands : Stands d (place_of e) (f.gone ++ b.front) new = grown d start end f.gone b.front e run b.first (omega arith) (omega arith) (f.so_far.each (place_of e) run at) in
+    let new = with_field (place_of e) run start end in
+    let stands : Stands d (place_of e) (f.gone ++ b.front) new = kept d start end f.gone b.front e run f.so_far.pieces b.first (omega arith) (omega arith) sound f.so_far.are f.so_far.sound (f.so_far.each (place_of e) run at) in
     record {
       gone = f.gone ++ b.front;
       parts = passed_on f.gone b.front rest f.parts b.parts;
       so_far = record {
         pieces = f.so_far.pieces ++ piece e b.front ∷ [];
         are = pieces_append f.so_far.are (one_piece d b.front e b.first);
+        sound = each_push (λ p. IsSoundText p.field) f.so_far.pieces (piece e b.front) f.so_far.sound sound;
         each = λ place other is. by_test (place == place_of e)
             (λ same.
             let p : place ≡ place_of e = eqb-true place (place_of e) same in

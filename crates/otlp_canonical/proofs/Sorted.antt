@@ -1,7 +1,8 @@
 -- A text's fields are put in order part by part.
-use Rattle.std.proofs.Common.{◌≡◌, ℕ, ◌-◌, ◌<◌, ◌≤◌, Bool, true, false, not, ◌&&◌, nat_lt, arith, List, [], ◌∷◌, ◌++◌, Option, Some, Result, Ok, refl, sym, ap, subst, ◌∙◌, append_assoc, append-nil}
+use Rattle.std.proofs.Common.{◌≡◌, ℕ, suc, ◌-◌, ◌<◌, ◌≤◌, Bool, true, false, not, ◌&&◌, nat_lt, arith, List, [], ◌∷◌, ◌++◌, Option, Some, Result, Ok, refl, sym, ap, subst, ◌∙◌, append_assoc, append-nil}
 use Rattle.std.proofs.lemmas.Bool.Decides.{nat_tests}
 use Rattle.std.proofs.lemmas.List.Elements.{filter-append}
+use Rattle.std.specs.List.{AllByRecursion}
 use Rattle.pb_wire.specs.declared.field.WireFault.{WireFault}
 use Rattle.pb_wire.specs.Grammar.{Entry, IsField}
 use Rattle.pb_wire.specs.Reading.{next_at}
@@ -9,11 +10,13 @@ use Rattle.pb_wire.proofs.Again.{next_takes}
 use Rattle.otlp_trace.specs.Data.{SpanData}
 use Rattle.otlp_trace.specs.Defaults.{no_span}
 use Rattle.otlp_read.specs.Value.{span_step}
-use Rattle.otlp_read.specs.Walk.{Piece, Pieces, no_pieces, more_pieces, before, fold_fields, read_with}
-use Rattle.otlp_read.proofs.Laws.{begins_at, walk_pieces}
+use Rattle.otlp_read.specs.Walk.{◌>>=◌, Piece, Pieces, no_pieces, more_pieces, before, fold_fields, read_with}
+use Rattle.otlp_read.specs.declared.fault.ReadFault.{ReadFault}
+use Rattle.otlp_read.proofs.Laws.{begins_at, bind_ok, fold_append, walk_pieces}
 use Rattle.otlp_read.proofs.Opened.{opened}
 use Rattle.otlp_read.proofs.Walks.{before_rest}
-use Rattle.otlp_canonical.specs.Order.{place_of, from, between, WithPlaces}
+use Rattle.otlp_canonical.specs.Order.{place_of, last_wins, IsSoundText, from, between, WithPlaces, PlaceRead}
+use Rattle.otlp_canonical.proofs.Last.{last_read}
 use Rattle.otlp_canonical.proofs.Ordered.{next_part, from_first, from_last}
 
 -- ---- fields of a text
@@ -95,6 +98,61 @@ put_same d low high gone old copy front e first not_in w = record {
   copied = w.copied;
 }
 
+-- the fields of one place, as they stand
+pub of_places : (d place : ℕ) (text old new : List ℕ) → WithPlaces d place (suc place) text old new → PlaceRead d place text old new
+of_places d place text old new w = record {
+  pieces = w.pieces;
+  are = w.are;
+  put = w.put;
+  chosen = between place (suc place) w.pieces;
+  chosen_are = w.chosen;
+  copied = w.copied;
+  same = λ room s t rest made. made;
+}
+
+-- one more of them
+pub read_more : (d place : ℕ) (gone old copy longer front : List ℕ) (e : Entry) → IsField d front e → is_in place (suc place) e ≡ true → longer ≡ copy ++ front → PlaceRead d place gone old copy → PlaceRead d place (gone ++ front) old longer
+read_more d place gone old copy longer front e first is longer_is w = record {
+  pieces = w.pieces ++ piece e front ∷ [];
+  are = pieces_append w.are (one_piece d front e first);
+  put = w.put ++ front;
+  chosen = w.chosen ++ piece e front ∷ [];
+  chosen_are = pieces_append w.chosen_are (one_piece d front e first);
+  copied = longer_is ∙ ap (λ (t : List ℕ). t ++ front) w.copied ∙ append_assoc old w.put front;
+  same = λ room s t rest made.
+      ap (λ (l : List Piece). fold_fields (span_step room) s (l ++ rest)) (chosen_more place (suc place) w.pieces e front is)
+      ∙ ap (fold_fields (span_step room) s) (append_assoc (between place (suc place) w.pieces) (piece e front ∷ []) rest)
+      ∙ w.same room s t (piece e front ∷ rest) (ap (fold_fields (span_step room) s) (sym (append_assoc w.chosen (piece e front ∷ []) rest)) ∙ made);
+}
+
+-- one of another place
+pub read_same : (d place : ℕ) (gone old copy front : List ℕ) (e : Entry) → IsField d front e → is_in place (suc place) e ≡ false → PlaceRead d place gone old copy → PlaceRead d place (gone ++ front) old copy
+read_same d place gone old copy front e first not_in w = record {
+  pieces = w.pieces ++ piece e front ∷ [];
+  are = pieces_append w.are (one_piece d front e first);
+  put = w.put;
+  chosen = w.chosen;
+  chosen_are = w.chosen_are;
+  copied = w.copied;
+  same = λ room s t rest made. ap (λ (l : List Piece). fold_fields (span_step room) s (l ++ rest)) (chosen_same place (suc place) w.pieces e front not_in) ∙ w.same room s t rest made;
+}
+
+-- the last of them, where it wins
+pub read_last : (d place : ℕ) (gone front : List ℕ) (pieces : List Piece) (e : Entry) → IsField d front e → last_wins place ≡ true → place_of e ≡ place → IsSoundText e → Pieces d gone pieces → AllByRecursion (λ p. IsSoundText p.field) pieces → PlaceRead d place (gone ++ front) [] front
+read_last d place gone front pieces e first one at sound are all =
+    let is : is_in place (suc place) e ≡ true = in_range place (suc place) e (omega (arith, at)) (omega (arith, at)) in
+    record {
+      pieces = pieces ++ piece e front ∷ [];
+      are = pieces_append are (one_piece d front e first);
+      put = front;
+      chosen = piece e front ∷ [];
+      chosen_are = one_piece d front e first;
+      copied = refl;
+      same = λ room s t rest made.
+          ap (λ (l : List Piece). fold_fields (span_step room) s (l ++ rest)) (chosen_more place (suc place) pieces e front is)
+          ∙ ap (fold_fields (span_step room) s) (append_assoc (between place (suc place) pieces) (piece e front ∷ []) rest) ∙ last_read room place pieces e front rest one at sound all s ∙ made;
+    }
+
 pub passed_on : {text left : List ℕ} (gone front rest : List ℕ) → text ≡ gone ++ left → left ≡ front ++ rest → text ≡ (gone ++ front) ++ rest
 passed_on gone front rest parts one = parts ∙ ap (λ (t : List ℕ). gone ++ t) one ∙ sym (append_assoc gone front rest)
 
@@ -144,16 +202,25 @@ none_sorted d text pieces are = record {
   same = λ room s t made. ap (fold_fields (span_step room) s) (sym (from_first pieces)) ∙ made;
 }
 
-pub part_sorted : (d low high : ℕ) (text copy new : List ℕ) → low ≤ high → WithPlaces d low high text copy new → Sorting d low text copy → Sorting d high text new
-part_sorted d low high text copy new le w p =
+pub part_sorted : (d low : ℕ) (text copy new : List ℕ) → PlaceRead d low text copy new → Sorting d low text copy → Sorting d (suc low) text new
+part_sorted d low text copy new w p =
+    let high = suc low in
     let is : w.pieces ≡ p.pieces = same_pieces w.are p.are refl in
-    let chosen : Pieces d w.put (between low high p.pieces) = subst (λ (l : List Piece). Pieces d w.put (between low high l)) is w.chosen in
     record {
       pieces = p.pieces;
       are = p.are;
-      sorted = p.sorted ++ between low high p.pieces;
-      copied = subst (λ (t : List ℕ). Pieces d t (p.sorted ++ between low high p.pieces)) (sym w.copied) (pieces_append p.copied chosen);
-      same = λ room s t made. p.same room s t (next_part room low high p.sorted p.pieces s t le made);
+      sorted = p.sorted ++ w.chosen;
+      copied = subst (λ (t : List ℕ). Pieces d t (p.sorted ++ w.chosen)) (sym w.copied) (pieces_append p.copied w.chosen_are);
+      same = λ room s t made.
+          let step = span_step room in
+          let rest = from high p.pieces in
+          let all : fold_fields step s (p.sorted ++ (w.chosen ++ rest)) ≡ Ok t = ap (fold_fields step s) (sym (append_assoc p.sorted w.chosen rest)) ∙ made in
+          let two = bind_ok (fold_fields step s p.sorted) (λ b. fold_fields step b (w.chosen ++ rest)) t (sym (fold_append step s p.sorted (w.chosen ++ rest)) ∙ all) in
+          let these : fold_fields step two.0 (between low high w.pieces ++ rest) ≡ Ok t = w.same room two.0 t rest two.2 in
+          let parts : fold_fields step s (p.sorted ++ (between low high p.pieces ++ rest)) ≡ Ok t =
+          fold_append step s p.sorted (between low high p.pieces ++ rest) ∙ ap (λ (r : Result SpanData ReadFault). r >>= λ b. fold_fields step b (between low high p.pieces ++ rest)) two.1
+          ∙ ap (λ (l : List Piece). fold_fields step two.0 (between low high l ++ rest)) (sym is) ∙ these in
+          p.same room s t (next_part room low high p.sorted p.pieces s t (omega arith) (ap (fold_fields step s) (append_assoc p.sorted (between low high p.pieces) rest) ∙ parts));
     }
 
 -- the copy is read as the text

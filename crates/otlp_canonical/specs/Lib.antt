@@ -1,3 +1,4 @@
+pub mod Anew
 pub mod Attribute
 pub mod Canonical
 pub mod Defaults

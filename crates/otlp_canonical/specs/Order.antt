@@ -1,8 +1,12 @@
 -- The order of a span's fields: by number, and behind all others those that a span doesn't know (canonical text is that
 -- of `otlp_trace`'s Text, over the fields of `Span` of OTLP 1.x's trace.proto).
-use Rattle.std.specs.Prelude.{◌≡◌, ◌==◌, ◌+◌, ◌&&◌, ◌||◌, if◌then◌else◌, ℕ, suc, nat_lt, Bool, true, false, not, List, [], ◌++◌, length, filter, slice_get, Some}
+use Rattle.std.specs.List.{AllByRecursion}
+use Rattle.std.specs.Str.{IsUtf8}
+use Rattle.otlp_trace.specs.Data.{SpanData}
+use Rattle.otlp_read.specs.Value.{span_step}
+use Rattle.std.specs.Prelude.{◌≡◌, ◌==◌, ◌+◌, ◌&&◌, ◌||◌, if◌then◌else◌, ℕ, suc, nat_lt, Bool, true, false, not, List, [], ◌++◌, length, filter, slice_get, Some, Ok}
 use Rattle.pb_wire.specs.Grammar.{Datum, Varint, Eight, Bytes, Four, Entry}
-use Rattle.otlp_read.specs.Walk.{Piece, Pieces}
+use Rattle.otlp_read.specs.Walk.{Piece, Pieces, fold_fields}
 use Rattle.otlp_canonical.specs.declared.order.Run.{Run}
 use Rattle.otlp_canonical.specs.Defaults.{is_number, is_text}
 
@@ -42,7 +46,31 @@ pub record WithPlaces (d low high : ℕ) (text old new : List ℕ) : Type 0 wher
   pub chosen : Pieces d put (between low high pieces)
   pub copied : new ≡ old ++ put
 
--- from one byte of the text to another, the fields of one place and no others
+-- of the fields at this place the last one wins: they have one value, and no message
+abbrev pub last_wins : ℕ → Bool
+last_wins place = not (place == 9 || (place == 11 || (place == 13 || (place == 15 || place == 17))))
+
+-- a span's string is UTF-8
+abbrev pub sound_text : ℕ → Datum → Type 0
+sound_text n (Bytes bs) = (n == 3 || n == 5) ≡ true → IsUtf8 bs
+sound_text n _ = Unit {0}
+
+-- the same of the whole field
+abbrev pub IsSoundText : Entry → Type 0
+IsSoundText field = sound_text field.number field.value
+
+-- behind what stood there, fields that make of a span what those of one place make, where they make one
+pub record PlaceRead (d place : ℕ) (text old new : List ℕ) : Type 0 where
+  pub pieces : List Piece
+  pub are : Pieces d text pieces
+  pub put : List ℕ
+  pub chosen : List Piece
+  pub chosen_are : Pieces d put chosen
+  pub copied : new ≡ old ++ put
+  pub same : (room : ℕ) (s t : SpanData) (rest : List Piece) → fold_fields (span_step room) s (chosen ++ rest) ≡ Ok t
+      → fold_fields (span_step room) s (between place (suc place) pieces ++ rest) ≡ Ok t
+
+-- from one byte of the text to another, fields that make what those of one place make
 pub record SideBySide (d place : ℕ) (text : List ℕ) (start end : ℕ) : Type 0 where
   pub before : List ℕ
   pub fields : List ℕ
@@ -50,7 +78,7 @@ pub record SideBySide (d place : ℕ) (text : List ℕ) (start end : ℕ) : Type
   pub parts : text ≡ before ++ (fields ++ behind)
   pub starts : start ≡ length before
   pub ends : end ≡ length before + length fields
-  pub all : WithPlaces d place (suc place) text [] fields
+  pub all : PlaceRead d place text [] fields
 
 -- so a run has them, unless others stand between them
 abbrev pub Stands : ℕ → ℕ → List ℕ → Run → Type 0
@@ -62,8 +90,15 @@ with_one run start end =
     if run.start == run.end then record run { start = start; end = end }
     else (if run.end == start then record run { end = end } else record run { apart = true })
 
--- a text of fields, and a run for each place
+-- the same where the last field alone is kept if it wins
+abbrev pub with_field : ℕ → Run → ℕ → ℕ → Run
+with_field place run start end =
+    if not (run.start == run.end) && last_wins place then record { start = start; end = end; apart = false }
+    else with_one run start end
+
+-- a text of fields whose strings are UTF-8, and a run for each place
 pub record AllStand (d : ℕ) (text : List ℕ) (runs : List Run) : Type 0 where
   pub pieces : List Piece
   pub are : Pieces d text pieces
+  pub sound : AllByRecursion (λ p. IsSoundText p.field) pieces
   pub each : (place : ℕ) (run : Run) → slice_get runs place ≡ Some run → Stands d place text run

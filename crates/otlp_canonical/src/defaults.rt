@@ -15,6 +15,7 @@ ghost use Rattle.otlp_read.specs.Walk.{read_with};
 use crate::attribute::{field_size, put_attribute};
 use crate::field::short_field;
 use crate::inner::{put_message, spare_size};
+use crate::rewritten::rewritten;
 use crate::text::is_span_text;
 use crate::unknown::Keeping;
 use otlp_trace::{Event, Link, Span, Status};
@@ -25,7 +26,7 @@ use std::alloc::{AllocError, Global};
 const FLAGS: u32 = 16;
 
 /// Whether a span's field of one value holds its default.
-fn is_default(field: Field<'_>) -> bool
+pub fn is_default(field: Field<'_>) -> bool
     ensures { result ≡ holds_default (entry field.entry) }
 {
     match field.value {
@@ -239,10 +240,10 @@ pub fn bare_copy(
         return Ok(None);
     };
     if is_span_text(copy.as_slice(), room) {
-        Ok(Some(copy))
-    } else {
-        Ok(None)
+        return Ok(Some(copy));
     }
+    let anew = rewritten(alloc, copy.as_slice(), room)?;
+    Ok(anew)
 }
 
 /// A span's canonical text, where the given text is that but for defaults that are written out; with room for so many
@@ -250,7 +251,8 @@ pub fn bare_copy(
 ///
 /// A default is looked for in the span and in its status, events and links, and in no attribute. What holds of defaults
 /// holds of lengths that are longer than they have to be, of the messages and attributes in the span. An event in which
-/// there is one of these may begin with its name, and its time behind that. The text may have some bytes of room more
+/// there is one of these may begin with its name, and its time behind that. Where one was found, what else isn't
+/// canonical in a message inside the span is put anew. The text may have some bytes of room more
 /// than it takes: at most 38 for each default, and 18 for each length.
 pub fn without_defaults(
     alloc: Global,

@@ -11,6 +11,7 @@
 //! Protocol Buffers encoding guide, over the messages of OTLP 1.x.
 #![tactic(auto)]
 
+mod anew;
 mod attribute;
 mod defaults;
 mod field;
@@ -20,6 +21,7 @@ mod message;
 mod number;
 mod order;
 mod request;
+mod rewritten;
 mod span;
 mod text;
 mod unknown;

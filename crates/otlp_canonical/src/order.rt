@@ -1,20 +1,25 @@
 //! Spans whose fields stand in another order. The Protocol Buffers encoding allows any, and some clients write fields
 //! as they are declared, a span's flags before its name.
 
-ghost use Rattle.std.specs.Prelude.{◌≡◌, ◌<◌, ◌≤◌, true, suc, Ok, IfOk, IfSome};
+ghost use Rattle.std.specs.Prelude.{◌≡◌, ◌<◌, true, false, suc, Ok, IfOk, IfSome, IsTrue};
 ghost use Rattle.pb_wire.specs.Grammar.{entry};
 ghost use Rattle.otlp_trace.specs.Data.{SpanData};
 ghost use Rattle.otlp_canonical.specs.Canonical.{CanonicalCopy};
-ghost use Rattle.otlp_canonical.specs.Order.{place_of, WithPlaces, with_one, Stands, AllStand};
+ghost use Rattle.otlp_canonical.specs.Order.{place_of, last_wins, IsSoundText, WithPlaces, PlaceRead, with_one, with_field, Stands, AllStand};
 ghost use Rattle.otlp_trace.specs.Defaults.{no_span};
 ghost use Rattle.otlp_read.specs.Value.{span_step};
 ghost use Rattle.otlp_read.specs.Walk.{read_with};
 
 use crate::defaults::without_defaults;
+use crate::field::is_utf8;
 use crate::flags::{flags_are_early, with_flags_last};
+use crate::rewritten::rewritten;
 use crate::text::is_span_text;
 use pb_wire::{Field, Value, next_field};
 use std::alloc::{AllocError, Global};
+
+/// The place of a span's status.
+const STATUS: u32 = 15;
 
 /// The place of the fields that a span doesn't know, behind all others.
 const NOT_KNOWN: u32 = 17;
@@ -61,6 +66,7 @@ struct Run {
 
 impl Run {
     /// With one more field, behind all that were met.
+    #[inline(always)]
     fn and(self, start: usize, end: usize) -> Run
         ensures { result ≡ with_one self start end }
     {
@@ -76,16 +82,73 @@ impl Run {
         }
     }
 
-    /// Whether one more field at this place can't be canonical: one of the kind that has one value was met already.
-    fn is_full_at(self, place: u32) -> bool {
-        self.start < self.end && !matches!(place, 9 | 11 | 13 | NOT_KNOWN)
+    /// With one more field of this place, behind all that were met, or in their place where the last one wins. None
+    /// where it is merged with one that was met: a status.
+    #[inline(always)]
+    fn with(self, place: u32, start: usize, end: usize) -> Option<Run>
+        ensures { IfSome result (λ run. run ≡ with_field place self start end) }
+    {
+        if self.start == self.end {
+            return Some(self.and(start, end));
+        }
+        if place == STATUS {
+            return None;
+        }
+        if last_wins(place) {
+            Some(Run {
+                start,
+                end,
+                apart: false,
+            })
+        } else {
+            Some(self.and(start, end))
+        }
     }
 }
 
-/// Where the fields of each place stand. None where they are in order already, where the text isn't fields, or where a
-/// field of one value stands twice.
-fn runs(text: &[u8], depth: u32) -> Option<[Run; 18]>
-    ensures { IfSome result (λ runs. AllStand depth text.now runs) }
+/// Whether of the fields at this place the last one wins.
+#[inline(always)]
+fn last_wins(place: u32) -> bool
+    ensures { result ≡ last_wins place }
+{
+    !matches!(place, 9 | 11 | 13 | 15 | 17)
+}
+
+/// Whether in canonical order a field at this place may stand behind those of places up to the highest.
+fn follows(place: u32, highest: u32) -> bool {
+    highest < place || highest == place && !last_wins(place)
+}
+
+/// Whether a span's field is UTF-8, if it has to be.
+#[inline(always)]
+fn is_sound(field: Field<'_>) -> bool
+    ensures { IsTrue result → IsSoundText (entry field.entry) }
+{
+    match field.value {
+        Value::Bytes(bytes) => {
+            if !matches!(field.number, 3 | 5) {
+                return true;
+            }
+            is_utf8(bytes)
+        }
+        Value::Varint(_) | Value::Eight(_) | Value::Four(_) | Value::Group(_) => true,
+    }
+}
+
+/// Where the fields of a span stand.
+#[derive(Drop)]
+struct Placed {
+    /// Those of each place.
+    places: [Run; 18],
+
+    /// They are in order already.
+    in_order: bool,
+}
+
+/// Where the fields of each place stand. None where the text isn't fields, where a string isn't UTF-8, or where a
+/// status stands twice.
+fn runs(text: &[u8], depth: u32) -> Option<Placed>
+    ensures { IfSome result (λ runs. AllStand depth text.now runs.places) }
 {
     let mut runs = [Run {
         start: 0,
@@ -100,16 +163,23 @@ fn runs(text: &[u8], depth: u32) -> Option<[Run; 18]>
             return None;
         };
         let place = place(field);
-        let run = runs[place as usize];
-        if run.is_full_at(place) {
+        if !is_sound(field) {
             return None;
         }
-        runs[place as usize] = run.and(text.len() - left.len(), text.len() - rest.len());
-        in_order = in_order && highest <= place;
+        let start = text.len() - left.len();
+        let end = text.len() - rest.len();
+        let Some(run) = runs[place as usize].with(place, start, end) else {
+            return None;
+        };
+        runs[place as usize] = run;
+        in_order = in_order && follows(place, highest);
         highest = highest.max(place);
         left = rest;
     }
-    if in_order { None } else { Some(runs) }
+    Some(Placed {
+        places: runs,
+        in_order,
+    })
 }
 
 /// Appends the fields of the text that stand at this place, as they stand. Tells whether the whole text is fields.
@@ -141,10 +211,11 @@ fn put_run(
 ) -> Result<bool, AllocError>
     requires { Stands depth place text.now run }
     ensures { IfOk result (λ whole. whole ≡ true
-        → WithPlaces depth place (suc place) text.now copy.old.items copy.new.items) }
+        → PlaceRead depth place text.now copy.old.items copy.new.items) }
 {
     if run.apart {
-        return put_apart(copy, text, depth, place);
+        let whole = put_apart(copy, text, depth, place)?;
+        return Ok(whole);
     }
     copy.extend_from_slice(&text[run.start..run.end])?;
     Ok(true)
@@ -165,17 +236,21 @@ fn has_zero_count(text: &[u8], runs: &[Run; 18]) -> bool {
 /// A span's text with its fields in canonical order.
 #[derive(Drop)]
 struct OrderedText {
+    /// Nothing, where the fields are in order already.
     copy: Vec<u8>,
+
+    /// They are.
+    in_order: bool,
 
     /// One of the span's counts is written as 0, so that the text isn't canonical.
     zero_count: bool,
 }
 
-/// The text with its fields in canonical order, or none where they are in order already, where it isn't fields, or
-/// where a field of one value stands twice.
+/// The text with its fields in canonical order, and of those of which the last one wins no others; unless it is so
+/// already. None where it isn't fields, where a string isn't UTF-8, or where a status stands twice.
 fn sorted(alloc: Global, text: &[u8], room: u32) -> Result<Option<OrderedText>, AllocError>
-    ensures { IfOk result (λ found. IfSome found (λ sorted. (span : SpanData)
-        → read_with span_step room no_span sorted.copy.items ≡ Ok span
+    ensures { IfOk result (λ found. IfSome found (λ sorted. sorted.in_order ≡ false
+        → (span : SpanData) → read_with span_step room no_span sorted.copy.items ≡ Ok span
         → read_with span_step room no_span text.now ≡ Ok span)) }
 {
     if room == 0 {
@@ -185,16 +260,27 @@ fn sorted(alloc: Global, text: &[u8], room: u32) -> Result<Option<OrderedText>, 
     let Some(runs) = runs(text, depth) else {
         return Ok(None);
     };
+    if runs.in_order {
+        return Ok(Some(OrderedText {
+            copy: Vec::new(alloc),
+            in_order: true,
+            zero_count: false,
+        }));
+    }
     let mut copy = Vec::with_capacity(alloc, text.len())?;
     let mut place = 0u32;
     'places: while place < NO_PLACE {
-        if !put_run(&mut copy, text, depth, place, runs[place as usize])? {
+        if !put_run(&mut copy, text, depth, place, runs.places[place as usize])? {
             return Ok(None);
         }
         place += 1;
     }
-    let zero_count = has_zero_count(text, &runs);
-    Ok(Some(OrderedText { copy, zero_count }))
+    let zero_count = has_zero_count(text, &runs.places);
+    Ok(Some(OrderedText {
+        copy,
+        in_order: false,
+        zero_count,
+    }))
 }
 
 /// What `in_order` gives, by the places of all fields.
@@ -206,19 +292,32 @@ fn sorted_copy(alloc: Global, text: &[u8], room: u32) -> Result<Option<Vec<u8>>,
     let Some(sorted) = sorted(alloc, text, room)? else {
         return Ok(None);
     };
-    let OrderedText { copy, zero_count } = sorted;
+    let OrderedText {
+        copy,
+        in_order,
+        zero_count,
+    } = sorted;
+    if in_order {
+        let anew = rewritten(alloc, text, room)?;
+        return Ok(anew);
+    }
     if !zero_count && is_span_text(copy.as_slice(), room) {
         return Ok(Some(copy));
     }
     let found = without_defaults(alloc, copy.as_slice(), room)?;
-    Ok(found)
+    if found.is_some() {
+        return Ok(found);
+    }
+    let anew = rewritten(alloc, copy.as_slice(), room)?;
+    Ok(anew)
 }
 
-/// A span's canonical text, where the given text is that but for the order of its fields, and for defaults that are
-/// written out; with room for so many levels, as in `is_span_text`. Else none, and nothing is said of the text.
+/// A span's canonical text, where the given text is that but for the order of its fields, for fields of one value that
+/// stand twice, for defaults that are written out, and for the spelling of messages inside the span; with room for so
+/// many levels, as in `is_span_text`. Else none, and nothing is said of the text. A text that is canonical already may
+/// have none, or a copy.
 ///
-/// What `without_defaults` says of messages inside the span holds here too. The text may have some bytes of room more
-/// than it takes: at most 38 for each default, and 18 for each length.
+/// The text may have some bytes of room more than it takes: at most 38 for each default, and 18 for each length.
 pub fn in_order(alloc: Global, text: &[u8], room: u32) -> Result<Option<Vec<u8>>, AllocError>
     ensures { IfOk result (λ found. IfSome found (λ copy. CanonicalCopy room text.now
         copy.items)) }

@@ -106,7 +106,8 @@ fn resource_told(
     policies.resource_note(bytes_in(resource))
 }
 
-/// What stands round the spans of a resource, likewise.
+/// What stands round the spans of a resource, but for their scope. Texts that are the same as in the last origin are
+/// shared with it.
 fn outer_of(
     alloc: Global,
     resource: &PartText,

@@ -2,7 +2,7 @@
 use Rattle.std.proofs.Common.{◌≡◌, ℕ, suc, ◌-◌, ◌==◌, List, Some, unwrap_or, Ok, refl, arith}
 use Rattle.std.proofs.lemmas.Str.{IsUtf8-nil}
 use Rattle.pb_wire.specs.Grammar.{Varint, Eight, Bytes, Four}
-use Rattle.otlp_trace.specs.Data.{EventData, LinkData, SpanData, ScopeSpansData, ResourceSpansData, RequestData, ResponseData}
+use Rattle.otlp_trace.specs.Data.{EventData, LinkData, StatusData, SpanData, ScopeSpansData, ResourceSpansData, RequestData, ResponseData}
 use Rattle.otlp_read.specs.AnyValue.{no_key_value, key_value_step}
 use Rattle.otlp_read.specs.Nested.{NestedKeyValue, NestedResource, NestedScope, NestedStatus, NestedEvent, NestedLink, NestedSpan, NestedScopeSpans, NestedResourceSpans, NestedRequest}
 use Rattle.otlp_read.specs.Numbers.{int32, uint32, int64, fixed64, fixed32}
@@ -77,6 +77,9 @@ status_fine F room s n _ wire good = not_known (λ y. refl)
 status_reads : (F : Type 0) (room : ℕ) → Reads F NestedStatus TypedStatus (read_with status_step) room
 status_reads F = message_reads F NestedStatus TypedStatus status_step (λ r. kept_keeps F status_known (100 - r) (Good F NestedStatus TypedStatus (suc r)) (status_fine F r) keep_status (λ a e spelled is none good. (assumption (good.0, kept_more (λ r. status_known) r a.unknown spelled e good.0.unknown is none), λ f. assumption (good.1 f))))
 
+pub status_sound : (F : Type 0) (room : ℕ) (x : StatusData) (text : List ℕ) → (F → AreBytes text) → read_with status_step room no_status text ≡ Ok x → Good F NestedStatus TypedStatus room x
+status_sound F room x text are e = status_reads F room no_status x text are (fresh NestedStatus no_status empty_status room) (λ f. empty_status_typed) e
+
 -- ---- event
 
 empty_event : (room : ℕ) → NestedEvent (suc room) no_event
@@ -101,7 +104,7 @@ event_fine F room v n _ wire good = not_known (λ y. refl)
 event_reads : (F : Type 0) (room : ℕ) → Reads F NestedEvent TypedEvent (read_with event_step) room
 event_reads F = message_reads F NestedEvent TypedEvent event_step (λ r. kept_keeps F (event_known r) (100 - r) (Good F NestedEvent TypedEvent (suc r)) (event_fine F r) keep_event (λ a e spelled is none good. (assumption (good.0, kept_more event_known r a.unknown spelled e good.0.unknown is none), λ f. assumption (good.1 f))))
 
-event_sound : (F : Type 0) (room : ℕ) (x : EventData) (text : List ℕ) → (F → AreBytes text) → read_with event_step room no_event text ≡ Ok x → Good F NestedEvent TypedEvent room x
+pub event_sound : (F : Type 0) (room : ℕ) (x : EventData) (text : List ℕ) → (F → AreBytes text) → read_with event_step room no_event text ≡ Ok x → Good F NestedEvent TypedEvent room x
 event_sound F room x text are e = event_reads F room no_event x text are (fresh NestedEvent no_event empty_event room) (λ f. empty_event_typed) e
 
 -- ---- link
@@ -130,7 +133,7 @@ link_fine F room v n _ wire good = not_known (λ y. refl)
 link_reads : (F : Type 0) (room : ℕ) → Reads F NestedLink TypedLink (read_with link_step) room
 link_reads F = message_reads F NestedLink TypedLink link_step (λ r. kept_keeps F (link_known r) (100 - r) (Good F NestedLink TypedLink (suc r)) (link_fine F r) keep_link (λ a e spelled is none good. (assumption (good.0, kept_more link_known r a.unknown spelled e good.0.unknown is none), λ f. assumption (good.1 f))))
 
-link_sound : (F : Type 0) (room : ℕ) (x : LinkData) (text : List ℕ) → (F → AreBytes text) → read_with link_step room no_link text ≡ Ok x → Good F NestedLink TypedLink room x
+pub link_sound : (F : Type 0) (room : ℕ) (x : LinkData) (text : List ℕ) → (F → AreBytes text) → read_with link_step room no_link text ≡ Ok x → Good F NestedLink TypedLink room x
 link_sound F room x text are e = link_reads F room no_link x text are (fresh NestedLink no_link empty_link room) (λ f. empty_link_typed) e
 
 -- ---- span

@@ -74,7 +74,7 @@ fn has_room(queue: &SendQueue, wanted: &Wanted<'_>) -> bool {
     is(
         wanted,
         "of",
-        queue.waiting() as u64,
+        queue.queued() as u64,
         u64::from(queue.capacity()),
     )
 }

@@ -264,7 +264,7 @@ front_moment (batch ∷ rest) = Some batch.moment
 abbrev pub next_front : SenderData → Option ℕ
 next_front s = if has_consumer s then front_moment s.queue else None
 
--- from when on a job can be handed out: the first retry's, or with a free consumer that at which the queue's oldest
--- batch formed; none without tickets
+-- from when on a job is due: the first retry's, or with a free consumer that at which the queue's oldest batch formed;
+-- none without tickets
 abbrev pub ready : SenderData → Option ℕ
 ready s = if has_tickets s then lesser (next_retry s.active) (next_front s) else None

@@ -81,7 +81,7 @@ impl SendQueue {
     }
 
     /// How many batches wait to be sent for the first time: those that `capacity` bounds.
-    pub fn waiting(&self) -> usize
+    pub fn queued(&self) -> usize
         ensures { result ≡ length self.now.queue }
     {
         self.queue.len()
@@ -283,8 +283,8 @@ impl SendQueue {
         }
     }
 
-    /// From when on there is a job to hand out, in milliseconds; none where nothing waits for that, no consumer is free
-    /// for what waits, or no tickets are left.
+    /// From when on a job is due, in milliseconds; none where nothing waits for that, no consumer is free for what
+    /// waits, or no tickets are left.
     pub fn ready(&self) -> Option<u64>
         ensures { result ≡ ready self.now }
     {

@@ -2,11 +2,19 @@
 
 use std::alloc::{AllocError, Global};
 use std::test::Fail;
-use tail_settings::{Section, Settings, load};
+use tail_settings::{Document, Section, Settings, SettingsFault, load};
 
 const A_AND_B: &str =
     "tenant = [{ name = 'a', max_spans = 100, tail_sampling = { policy = [{ type = 'always_sample' }] } },
 { name = 'b', max_spans = 100, tail_sampling = { policy = [{ type = 'always_sample' }] } }]";
+
+/// A document of one tenant.
+const C: &str =
+    "tenant = [{ name = 'c', max_spans = 100, tail_sampling = { policy = [{ type = 'always_sample' }] } }]";
+
+/// A document of another.
+const D: &str =
+    "tenant = [{ name = 'd', max_spans = 200, tail_sampling = { policy = [{ type = 'always_sample' }] } }]";
 
 /// Changes and what is told of each: the number of who comes, the `max_spans` of who leaves, or a fault.
 const STORY: &str = "x = => settings fault 10
@@ -49,21 +57,54 @@ fn told_of_strike(alloc: Global, section: Option<Section>) -> Result<String, All
     }
 }
 
-fn told_of_admit(alloc: Global, settings: &mut Settings, text: &str) -> Result<String, AllocError> {
-    match settings.admit(alloc, text) {
+/// How the tenant of a text is admitted.
+#[derive(Clone, Copy)]
+enum Way {
+    ByText,
+    ByDocument,
+}
+
+fn admit(
+    alloc: Global,
+    settings: &mut Settings,
+    way: Way,
+    text: &str,
+) -> Result<u32, SettingsFault> {
+    match way {
+        Way::ByText => settings.admit(alloc, text),
+        Way::ByDocument => {
+            let document = Document::parse(alloc, text)?;
+            settings.admit_document(alloc, &document)
+        }
+    }
+}
+
+fn told_of_admission(
+    alloc: Global,
+    admission: Result<u32, SettingsFault>,
+) -> Result<String, AllocError> {
+    match admission {
         Ok(number) => format!(in alloc; "{number}"),
         Err(fault) => format!(in alloc; "{fault}"),
     }
 }
 
 /// Makes a change, and what is told of it.
-fn told(alloc: Global, settings: &mut Settings, change: &str) -> Result<String, AllocError> {
+fn told(
+    alloc: Global,
+    settings: &mut Settings,
+    way: Way,
+    change: &str,
+) -> Result<String, AllocError> {
     match change.strip_prefix("strike ") {
         Some(number) => {
             let section = settings.strike(number.parse().unwrap_or(u32::MAX));
             told_of_strike(alloc, section)
         }
-        None => told_of_admit(alloc, settings, change),
+        None => {
+            let admission = admit(alloc, settings, way, change);
+            told_of_admission(alloc, admission)
+        }
     }
 }
 
@@ -71,13 +112,14 @@ fn told(alloc: Global, settings: &mut Settings, change: &str) -> Result<String, 
 fn first_wrong(
     alloc: Global,
     settings: &mut Settings,
+    way: Way,
     story: &'static str,
 ) -> Result<&'static str, AllocError> {
     for line in story.lines() {
         let Some((change, wanted)) = line.split_once(" => ") else {
             return Ok(line);
         };
-        let told = told(alloc, settings, change)?;
+        let told = told(alloc, settings, way, change)?;
         if told.as_str() != wanted {
             return Ok(line);
         }
@@ -100,8 +142,57 @@ fn are_b_and_c(settings: &Settings) -> bool {
 #[test]
 fn a_number_stays_with_its_tenant(rt: HostRuntime) -> Result<(), Fail> {
     let mut settings = load(rt.alloc(), A_AND_B)?;
-    assert_eq!(rt; first_wrong(rt.alloc(), &mut settings, STORY)?, "");
+    assert_eq!(rt;
+        first_wrong(rt.alloc(), &mut settings, Way::ByText, STORY)?,
+        ""
+    );
     assert!(rt; are_b_and_c(&settings));
+    Ok(())
+}
+
+#[test]
+fn a_document_is_admitted_as_its_text_is(rt: HostRuntime) -> Result<(), Fail> {
+    let mut settings = load(rt.alloc(), A_AND_B)?;
+    assert_eq!(rt;
+        first_wrong(rt.alloc(), &mut settings, Way::ByDocument, STORY)?,
+        ""
+    );
+    assert!(rt; are_b_and_c(&settings));
+    Ok(())
+}
+
+/// The settings of `a` and `b` with the tenants of two documents, one behind the other.
+fn with_both(
+    alloc: Global,
+    first: &Document,
+    second: &Document,
+) -> Result<Settings, SettingsFault> {
+    let mut settings = load(alloc, A_AND_B)?;
+    settings.admit_document(alloc, first)?;
+    settings.admit_document(alloc, second)?;
+    Ok(settings)
+}
+
+#[test]
+fn documents_are_admitted_in_any_order(rt: HostRuntime) -> Result<(), Fail> {
+    let c = Document::parse(rt.alloc(), C)?;
+    let d = Document::parse(rt.alloc(), D)?;
+    let settings = with_both(rt.alloc(), &c, &d)?;
+    assert_eq!(rt;
+        (settings.number("c"), settings.number("d")),
+        (Some(2), Some(3))
+    );
+    let mut settings = with_both(rt.alloc(), &d, &c)?;
+    assert_eq!(rt;
+        (settings.number("c"), settings.number("d")),
+        (Some(3), Some(2))
+    );
+    let again = settings.admit_document(rt.alloc(), &c);
+    assert_eq!(rt;
+        told_of_admission(rt.alloc(), again)?.as_str(),
+        "settings fault 14 c"
+    );
+    assert_eq!(rt; settings.tenants_len(), 4);
     Ok(())
 }
 
@@ -126,7 +217,10 @@ fn tenants_text(alloc: Global, count: u32) -> Result<String, AllocError> {
 fn at_most_a_thousand_are_present(rt: HostRuntime) -> Result<(), Fail> {
     let text = tenants_text(rt.alloc(), 1000)?;
     let mut settings = load(rt.alloc(), text.as_str())?;
-    assert_eq!(rt; first_wrong(rt.alloc(), &mut settings, A_THOUSAND)?, "");
+    assert_eq!(rt;
+        first_wrong(rt.alloc(), &mut settings, Way::ByText, A_THOUSAND)?,
+        ""
+    );
     Ok(())
 }
 
@@ -140,7 +234,8 @@ fn told_of_policies(
     let text = format!(in alloc;
         "global = 1\ntenant = [{{ name = 'c', tail_sampling = {{ policy = [{policies}] }} }}]"
     )?;
-    told_of_admit(alloc, settings, text.as_str())
+    let admission = settings.admit(alloc, text.as_str());
+    told_of_admission(alloc, admission)
 }
 
 #[test]

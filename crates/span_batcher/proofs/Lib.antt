@@ -4,6 +4,7 @@ pub mod Laws
 pub mod Calls
 pub mod Timers
 pub mod Maps
+pub mod Held
 pub mod Runs
 pub mod Written
 pub mod Requests

@@ -1,6 +1,8 @@
--- The law of the batches: what comes later only adds (Batches, after the Collector's batchprocessor).
-use Rattle.std.specs.Prelude.{◌≡◌, ℕ, ◌≤◌, true, List, [], ◌∷◌, ◌++◌, Option, Some, None}
-use Rattle.span_batcher.specs.Batches.{Rules, Place, batches_in, rest_in}
+-- The laws of the batches: what comes later only adds, and no span is lost or doubled (Batches, after the Collector's
+-- batchprocessor).
+use Rattle.std.specs.Prelude.{◌≡◌, ℕ, ◌≤◌, true, List, [], ◌∷◌, ◌++◌, map, flat_map, Option, Some, None}
+use Rattle.span_batcher.specs.Batches.{Rules, Group, Place, span_of, batches_in, rest_in, batches, left}
+use Rattle.span_batcher.specs.Maps.{spans_of}
 
 -- no span is of a moment before this one
 abbrev pub AllFrom : {X : Type 0} → ℕ → List (Place X) → Type 0
@@ -31,3 +33,8 @@ Continues X = (r : Rules) (e e' : ℕ) (x x' : Option ℕ) (old more : List (Pla
     TimerMovesOn e x e' x' more →
     (batches_in r e' x' (old ++ more) ≡ batches_in r e x old ++ batches_in r e' x' (rest_in r e x old ++ more))
     × (rest_in r e' x' (old ++ more) ≡ rest_in r e' x' (rest_in r e x old ++ more))
+
+-- what all batches hold, and behind it what they leave, are the spans of all groups, in order
+abbrev pub HoldAll : Type 0 → Type 0
+HoldAll X = (r : Rules) (e : ℕ) (x : Option ℕ) (groups : List (Group X)) →
+    spans_of (batches r e x groups) ++ map span_of (left r e x groups) ≡ flat_map (λ group. group.spans) groups

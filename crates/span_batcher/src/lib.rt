@@ -16,7 +16,7 @@
 #![tactic(auto)]
 
 ghost use Rattle.std.specs.Prelude.{ℕ};
-ghost use Rattle.span_batcher.specs.Law.{Continues};
+ghost use Rattle.span_batcher.specs.Law.{Continues, HoldAll};
 ghost use Rattle.span_batcher.specs.State.{WaitsOn, StaysDrained};
 ghost use Rattle.span_batcher.specs.Timers.{Passes, AllCome};
 
@@ -37,6 +37,12 @@ pub use request::batches_are_requests;
 /// What comes later only adds batches: those of what was left with what came.
 pub fn continues()
     ensures { Continues ℕ }
+{}
+
+/// No span is lost or doubled: what all batches hold, and behind it what they leave, are the spans of all groups, in
+/// order.
+pub fn batches_hold_all()
+    ensures { HoldAll ℕ }
 {}
 
 /// Before the timer runs out nothing more forms.

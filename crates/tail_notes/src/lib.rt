@@ -32,7 +32,8 @@ pub fn note_all<P: Policy + Sync, R: Threads + Sync>(
     note_parts(rt, alloc, policy, spans, parts as usize)
 }
 
-/// The same. The parts have equally many spans each, and the last ones fewer where that doesn't come out even.
+/// The note of each span, in order, made in at most `parts` threads. The parts have equally many spans each, and the
+/// last ones fewer where that doesn't come out even.
 fn note_parts<P: Policy + Sync, R: Threads + Sync>(
     rt: &R,
     alloc: Global,

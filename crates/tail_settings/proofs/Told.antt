@@ -5,7 +5,6 @@ use Rattle.std.specs.Result.{IsErrAnd}
 use Rattle.tail_settings.specs.declared.fault.SettingsFault.{SettingsFault}
 use Rattle.std.specs.Prelude.{⊤}
 use Rattle.tail_settings.specs.Settings.{settings_of, settings_of_table}
-use Rattle.tail_settings.specs.Change.{admitted, admitted_table}
 use Rattle.tail_settings.specs.Fault.{FaultData, fault_view, TellsFault, Tells, ◌>>=◌}
 
 told_by : {A B : Type 0} (o : Option FaultData) (m : Result A FaultData) (k : A → Result B FaultData) → IfSome o (λ f. m ≡ Err f) → IfSome o (λ f. (m >>= k) ≡ Err f)
@@ -24,8 +23,3 @@ passed_on view (Err y) e m k h told = rw h (tells_more e m k told)
 unfoldable pub documents : ⊤
 unfolding settings_of settings_of_table
 documents = tt
-
--- and what it says of a tenant who comes
-unfoldable pub admissions : ⊤
-unfolding admitted admitted_table
-admissions = tt

@@ -6,6 +6,8 @@ use Rattle.std.specs.Str.{bytes_eq}
 use Rattle.std.specs.declared.alloc.Global.{Global}
 use Rattle.toml.specs.Data.{Members}
 use Rattle.toml.specs.Parse.{parse_document}
+use Rattle.toml.specs.View.{table_view}
+use Rattle.tail_settings.specs.declared.parsed.Document.{Document}
 use Rattle.tail_settings.specs.declared.settings.Settings.{Settings}
 use Rattle.tail_settings.specs.declared.tenant.Tenant.{Tenant}
 use Rattle.tail_settings.specs.Fault.{FaultData, not_toml, missing_key, double_tenant, too_many, ◌>>=◌}
@@ -108,6 +110,10 @@ settings_of_table document = do
 abbrev pub document_in : Option Members → Result Members FaultData
 document_in None = Err not_toml
 document_in (Some document) = Ok document
+
+-- what a Rust document says
+abbrev pub document_view : Document → Members
+document_view d = table_view d.table
 
 -- what a text means as settings, or the first fault
 unfoldable pub settings_of : List ℕ → Result SettingsData FaultData

@@ -3,16 +3,17 @@
 ghost use Rattle.std.specs.Prelude.{◌≡◌, ◌+◌, ◌<◌, ◌≤◌, ◌^◌, IfOk, IfErr, IfSome, None, Ok, option_map, sum_by, string_bytes};
 ghost use Rattle.indexmap.specs.IndexMap.{index_map_len, get_by_text};
 ghost use Rattle.toml.specs.View.{table_view};
-ghost use Rattle.tail_settings.specs.Change.{only_tenant, free_number, joined, admitted, struck, NumbersAreUsedOnce};
+ghost use Rattle.tail_settings.specs.Change.{only_tenant, free_number, joined, admitted, admitted_table, struck, NumbersAreUsedOnce};
 ghost use Rattle.tail_settings.specs.Fault.{Tells, fault_view};
 ghost use Rattle.tail_settings.specs.Keys.{keys_of};
 ghost use Rattle.tail_settings.specs.Section.{section_view};
-ghost use Rattle.tail_settings.specs.Settings.{tenant_view, settings_view, section_at};
+ghost use Rattle.tail_settings.specs.Settings.{tenant_view, document_view, settings_view, section_at};
 ghost use Rattle.tail_settings.specs.Valid.{AreFoundByPlace};
 
 use crate::document::{self, MAX_SPANS, MAX_TENANTS};
 use crate::fault::SettingsFault;
 use crate::keys;
+use crate::parsed::Document;
 use crate::section::Section;
 use crate::settings::Settings;
 use crate::tenant::Tenant;
@@ -45,11 +46,15 @@ impl Settings {
         }
     }
 
-    /// The tenant that a text says can come, with the name and the number that it gets.
-    #[tactic(auto, using(crate::proofs::Told::tells_more), unfolding(crate::proofs::Told::admissions))]
-    fn newcomer(&self, alloc: Global, text: &str) -> Result<(String, Tenant), SettingsFault>
+    /// The tenant that a document says can come, with the name and the number that it gets.
+    #[tactic(auto, using(crate::proofs::Told::tells_more), unfolding(crate::specs::Change::admitted_table))]
+    fn newcomer(
+        &self,
+        alloc: Global,
+        document: &Document,
+    ) -> Result<(String, Tenant), SettingsFault>
         ensures meaning { Tells (λ new. joined (settings_view self.now) (tenant_view new)) result
-            (admitted (settings_view self.now) text.now) }
+            (admitted_table (settings_view self.now) (document_view document.now)) }
         ensures number { IfOk result (λ new. new.1.number ≡ self.now.next) }
         ensures left { IfOk result (λ _. self.now.next < 2 ^ 32) }
         ensures name { IfOk result (λ new. get_by_text self.now.tenants (string_bytes new.0)
@@ -58,8 +63,7 @@ impl Settings {
         ensures spans { IfOk result (λ new. sum_by (λ entry. entry.1.section.max_spans)
             self.now.tenants.entries + new.1.section.max_spans ≤ 2 ^ 31) }
     {
-        let document = document::table(alloc, text)?;
-        let table = only_tenant(&document)?;
+        let table = only_tenant(&document.table)?;
         let number = self.free_number()?;
         let (name, tenant) = document::numbered_tenant(alloc, &self.tenants, number, table)?;
         let spans = document::spans(&self.tenants) + u64::from(tenant.section.max_spans);
@@ -69,8 +73,30 @@ impl Settings {
         Ok((name, tenant))
     }
 
-    /// Takes in the one tenant of a TOML document. The answer is its number, the next one. Of the document nothing but
+    /// Takes in the one tenant of a document. The answer is its number, the next one. Of the document nothing but
     /// `tenant` is read, as [`load`](crate::load) reads it. Where it is refused, nothing has changed.
+    pub fn admit_document(
+        &mut self,
+        alloc: Global,
+        document: &Document,
+    ) -> Result<u32, SettingsFault>
+        // The document's first fault exactly; refused memory says nothing of it.
+        ensures on_success { IfOk result (λ _. admitted_table (settings_view self.old)
+            (document_view document.now) ≡ Ok (settings_view self.new)) }
+        ensures number { IfOk result (λ number. number ≡ self.old.next) }
+        ensures fault { IfErr result (λ e. IfSome (fault_view e)
+            (λ f. admitted_table (settings_view self.old) (document_view document.now) ≡ Err f)) }
+        ensures on_refusal { IfErr result (λ _. settings_view self.new ≡ settings_view self.old) }
+    {
+        let (name, tenant) = self.newcomer(alloc, document)?;
+        let number = tenant.number;
+        self.tenants.insert(name, tenant)?;
+        self.next += 1;
+        Ok(number)
+    }
+
+    /// Takes in the one tenant of a TOML text, as [`admit_document`](Settings::admit_document) does of its document.
+    #[tactic(auto, using(crate::proofs::Told::tells_more), unfolding(crate::specs::Change::admitted))]
     pub fn admit(&mut self, alloc: Global, text: &str) -> Result<u32, SettingsFault>
         // The document's first fault exactly; refused memory says nothing of it.
         ensures on_success { IfOk result (λ _. admitted (settings_view self.old) text.now
@@ -80,11 +106,8 @@ impl Settings {
             (λ f. admitted (settings_view self.old) text.now ≡ Err f)) }
         ensures on_refusal { IfErr result (λ _. settings_view self.new ≡ settings_view self.old) }
     {
-        let (name, tenant) = self.newcomer(alloc, text)?;
-        let number = tenant.number;
-        self.tenants.insert(name, tenant)?;
-        self.next += 1;
-        Ok(number)
+        let document = Document::parse(alloc, text)?;
+        self.admit_document(alloc, &document)
     }
 
     /// Takes out the tenant with this number, which nobody else gets. The answer is its section, or `None` where there

@@ -7,11 +7,12 @@ ghost use Rattle.toml.specs.View.{table_view};
 ghost use Rattle.tail_settings.specs.Fault.{Tells, fault_view, not_toml};
 ghost use Rattle.tail_settings.specs.Keys.{keys_of};
 ghost use Rattle.tail_settings.specs.Section.{section_view, section_of};
-ghost use Rattle.tail_settings.specs.Settings.{name_of, numbered_tenant, with_tenant, tenants_of, tenant_view, spans_of, document_in, settings_view, settings_of};
+ghost use Rattle.tail_settings.specs.Settings.{name_of, numbered_tenant, with_tenant, tenants_of, tenant_view, spans_of, settings_view, settings_of};
 ghost use Rattle.tail_settings.specs.Valid.{AreValidSettings};
 
 use crate::fault::SettingsFault;
 use crate::global::GlobalSettings;
+use crate::parsed::Document;
 use crate::section::Section;
 use crate::settings::Settings;
 use crate::tenant::Tenant;
@@ -118,17 +119,6 @@ pub(crate) fn spans(tenants: &IndexMap<String, Tenant>) -> u64
         .sum()
 }
 
-/// The table of a text.
-pub(crate) fn table(alloc: Global, text: &str) -> Result<Table, SettingsFault>
-    ensures { Tells table_view result (document_in (parse_document text.now)) }
-{
-    match toml::table_from_str(alloc, text) {
-        Ok(document) => Ok(document),
-        Err(error) if error.is_memory() => Err(SettingsFault::OutOfMemory),
-        Err(_) => Err(SettingsFault::NotToml),
-    }
-}
-
 /// The settings that a TOML document means, or the first fault in the order in which its keys are read.
 #[tactic(auto, using(crate::proofs::Told::tells_more), unfolding(crate::proofs::Told::documents))]
 pub fn load(alloc: Global, text: &str) -> Result<Settings, SettingsFault>
@@ -142,9 +132,9 @@ pub fn load(alloc: Global, text: &str) -> Result<Settings, SettingsFault>
     // Fault 10 is that of the texts that are no TOML document, and of no others.
     ensures not_toml { (settings_of text.now ≡ Err not_toml) ↔ (parse_document text.now ≡ None) }
 {
-    let document = table(alloc, text)?;
-    let global = GlobalSettings::read(alloc, &document)?;
-    let tenants = tenants(alloc, &document)?;
+    let document = Document::parse(alloc, text)?;
+    let global = GlobalSettings::read(alloc, &document.table)?;
+    let tenants = tenants(alloc, &document.table)?;
     if spans(&tenants) > MAX_SPANS {
         return Err(SettingsFault::TooMany);
     }

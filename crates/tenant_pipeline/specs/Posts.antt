@@ -1,4 +1,4 @@
--- How the spans of a post come, one after the other (oTLP/HTTP, "Partial Success", and the Collector's
+-- How the spans of a post come, one after the other (OTLP/HTTP, "Partial Success", and the Collector's
 -- tailsamplingprocessor, as `tenant_rules` has them).
 use Rattle.std.specs.Prelude.{◌≡◌, ◌<◌, ◌≤◌, ◌+◌, ◌-◌, ◌++◌, ℕ, List, [], ◌∷◌, length, map, Bool, true, false, Option, None, Some, slice_index_or, if◌then◌else◌, nat_lt}
 use Rattle.drop_ledger.specs.Ledger.{LedgerData, counted, moved}

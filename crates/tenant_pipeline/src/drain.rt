@@ -190,7 +190,7 @@ impl Pipeline {
         ensures back { (start : Own) → TakesBack undo.old start self.old
             → TakesBack undo.new start self.new }
     {
-        if self.sender.waiting() > 0 {
+        if self.sender.queued() > 0 {
             return Ok(());
         }
         let Some(first) = leaving.unsent.first() else {

@@ -94,7 +94,7 @@ impl Pipeline {
         ensures two { OnOk result (1 < length self.new.sender.queue) }
         ensures others_unchanged { OthersUnchanged self.old.tenant stores.old stores.new }
     {
-        if self.sender.waiting() > 1 {
+        if self.sender.queued() > 1 {
             return Ok(());
         }
         let Some(next) = self.unsent.first() else {

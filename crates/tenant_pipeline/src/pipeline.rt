@@ -154,7 +154,7 @@ impl Pipeline {
             undecided_rows: self.rows_undecided(),
             rows_limit: u64::from(self.section.tail_sampling.num_traces),
             spans_limit: u64::from(self.section.max_spans),
-            queued_batches: (self.sender.waiting() as u64).saturating_add(self.unsent.len() as u64),
+            queued_batches: (self.sender.queued() as u64).saturating_add(self.unsent.len() as u64),
             queued_batches_limit: u64::from(self.sender.capacity()),
         }
     }

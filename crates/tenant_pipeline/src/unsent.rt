@@ -175,7 +175,7 @@ impl Leaving {
             sender.now self.old self.new ledger.old ledger.new) }
     {
         let spans = keys.len() as u64;
-        let room = (sender.capacity() as usize).saturating_sub(sender.waiting());
+        let room = (sender.capacity() as usize).saturating_sub(sender.queued());
         if room <= self.unsent.len() {
             self.gone.extend_from_slice(keys)?;
             ledger.move_spans(Place::Pending, Place::QueueFull, spans);

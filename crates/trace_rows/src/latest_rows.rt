@@ -60,7 +60,7 @@ impl LatestRows {
         ensures { result ≡ latest_rows_of tenant self.now trace }
     {
         let id = halves_of(trace);
-        if self.tenant == tenant && self.id.0 == id.0 && self.id.1 == id.1 {
+        if self.tenant == tenant && self.id == id {
             return self.latest;
         }
         self.numbers.get(&(tenant, id)).copied()

@@ -10,6 +10,7 @@ use Rattle.http_edge.specs.Message.{Response}
 use Rattle.http_edge.specs.declared.message.MediaType.TheVariants.{Json}
 use Rattle.replay_script.specs.Answer.{refused_text, report_text}
 use Rattle.settings_check.specs.Report.{IsFileReport}
+use Rattle.tenant_shard.specs.Outcomes.{not_member, not_empty}
 use Rattle.trace_service.specs.Notice.{came_reply, notice_of, reply_of, unknown_reply}
 use Rattle.trace_service.specs.Post.{no_memory}
 use Rattle.trace_service.specs.declared.desk.Asked.{Asked}
@@ -124,12 +125,13 @@ pub data TellsRetired (name line : List ℕ) (told : Response) : Type 0 where
   went : (ledger : LedgerData) → line ≡ last_line name ledger
       → told ≡ went_reply name ledger → TellsRetired name line told
   -- its shard had it no more: a try before, for whose report memory was refused, had let it go
-  gone : line ≡ refused_text name 22 → told ≡ unknown_reply → TellsRetired name line told
+  gone : line ≡ refused_text name not_member → told ≡ unknown_reply → TellsRetired name line told
   -- it holds spans, and stays
-  stays : line ≡ refused_text name 26 → told ≡ stays_reply → TellsRetired name line told
+  stays : line ≡ refused_text name not_empty → told ≡ stays_reply → TellsRetired name line told
   -- no such line: memory was refused for its bytes
   no_line : line ≢ [] → (IsUtf8 line → ((ledger : LedgerData) → LedgerInvariant ledger → line ≢ last_line name ledger)
-      × (line ≢ refused_text name 22) × (line ≢ refused_text name 26)) → told ≡ no_memory → TellsRetired name line told
+      × (line ≢ refused_text name not_member) × (line ≢ refused_text name not_empty))
+      → told ≡ no_memory → TellsRetired name line told
 
 -- what whoever posted a document is told, by what came of the question
 abbrev pub TellsAdding : Asked → List ℕ → Response → Type 0

@@ -12,6 +12,7 @@ use Rattle.tenant_shard.specs.declared.step.Step.{Step}
 use Rattle.tenant_shard.specs.declared.step.Step.TheVariants as steps
 use Rattle.tenant_shard.specs.declared.step.Outcome.{Outcome}
 use Rattle.tenant_shard.specs.declared.step.Outcome.TheVariants as outcomes
+use Rattle.tenant_shard.specs.Outcomes.{not_empty}
 use Rattle.trace_service.specs.declared.input.ReadResult.{ReadResult}
 use Rattle.trace_service.specs.declared.input.ReadResult.TheVariants.{Byte, Nothing, End}
 use Rattle.trace_service.specs.declared.chore.Chore.{Chore}
@@ -108,7 +109,7 @@ pub data AreDrained (shards : ℕ) (old : CallerState) (before : ℕ) : List ℕ
 
 -- whether a tenant that was to go stays: it wasn't empty
 abbrev pub stays : Outcome → Bool
-stays (outcomes.Refused tenant number) = number == 26
+stays (outcomes.Refused tenant number) = number == not_empty
 stays _ = false
 
 -- who is present once the tenant of this number was to go

@@ -1,6 +1,6 @@
 -- Settings in force, to which tenants come and which they leave while threads look at them under a lock. This project's
 -- own rule.
-use Rattle.std.specs.Prelude.{◌≡◌, ◌⊎◌, ℕ, List, [], Option, Some, None, Ok, Err, option_map, string_bytes}
+use Rattle.std.specs.Prelude.{◌≡◌, ◌⊎◌, ℕ, List, [], Option, Some, None, Result, Ok, Err, option_map, string_bytes}
 use Rattle.otlp_front.specs.Route.{Route, post, refuse, unknown_tenant}
 use Rattle.otlp_front.specs.Seen.{response_for}
 use Rattle.tail_settings.specs.Change.{Change, after, admitted, struck}
@@ -49,17 +49,26 @@ IsWhere (post number) now destination = IsTenant (section_at now number) number 
 IsWhere (refuse due) now (To tenant own) = ⊥
 IsWhere (refuse due) now (Nowhere refusal) = response_for refusal ≡ due
 
--- who came under settings with this document: their next tenant, with its name and section
-pub record IsNewcomer (now : SettingsData) (text : List ℕ) (newcomer : Newcomer) : Type 0 where
+-- who came under settings by this admission: their next tenant, with its name and section
+pub record IsNewcomerBy (admission : Result SettingsData FaultData) (now : SettingsData) (newcomer : Newcomer)
+    : Type 0 where
   pub grown : SettingsData
-  pub admits : admitted now text ≡ Ok grown
+  pub admits : admission ≡ Ok grown
   pub number : newcomer.number ≡ now.next
   pub name : option_map (λ t. t.name) (tenant_at grown newcomer.number) ≡ Some (string_bytes newcomer.name)
   pub section : section_at grown newcomer.number ≡ Some (section_view newcomer.section)
 
--- nobody came under settings with this document, and these are left: its first fault is told, and nothing has changed;
--- or memory was refused, and nothing has changed, or its tenant was let in and struck again, so its number is used up
+-- who came under settings with the document of this text
+abbrev pub IsNewcomer : SettingsData → List ℕ → Newcomer → Type 0
+IsNewcomer now text newcomer = IsNewcomerBy (admitted now text) now newcomer
+
+-- nobody came under settings by this admission, and these are left: its fault is told, and nothing has changed; or
+-- memory was refused, and nothing has changed, or its tenant was let in and struck again, so its number is used up
+abbrev pub IsTurnedAwayBy : Result SettingsData FaultData → SettingsData → Option FaultData → SettingsData → Type 0
+IsTurnedAwayBy admission now (Some fault) left = (admission ≡ Err fault) × (left ≡ now)
+IsTurnedAwayBy admission now None left =
+    (left ≡ now) ⊎ ((grown : SettingsData) × (admission ≡ Ok grown) × (left ≡ struck grown now.next))
+
+-- nobody came under settings with the document of this text, and these are left
 abbrev pub IsTurnedAway : SettingsData → List ℕ → Option FaultData → SettingsData → Type 0
-IsTurnedAway now text (Some fault) left = (admitted now text ≡ Err fault) × (left ≡ now)
-IsTurnedAway now text None left =
-    (left ≡ now) ⊎ ((grown : SettingsData) × (admitted now text ≡ Ok grown) × (left ≡ struck grown now.next))
+IsTurnedAway now text fault left = IsTurnedAwayBy (admitted now text) now fault left

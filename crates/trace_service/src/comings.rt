@@ -3,13 +3,14 @@
 ghost use Rattle.std.specs.Prelude.{◌≡◌, ◌<◌, ◌%◌, Ok, length, string_bytes, vec_len, vec_capacity, true, false, IfOk, IfErr};
 ghost use Rattle.std.specs.IoError.{error_kind};
 ghost use Rattle.shared_hub.specs.Logs.{IsEmptyOn};
+ghost use Rattle.tail_settings.specs.Change.{admitted_table};
 ghost use Rattle.tail_settings.specs.Fault.{fault_view};
-ghost use Rattle.tail_settings.specs.Settings.{SettingsData};
+ghost use Rattle.tail_settings.specs.Settings.{SettingsData, document_view};
 ghost use Rattle.trace_service.specs.Comings.{IsAdded, IsJoined, IsNotJoined, not_added_text, why_not};
 ghost use Rattle.trace_service.specs.Commands.{left_by, stays};
 ghost use Rattle.trace_service.specs.Control.{Adds, RetiresNamed};
 ghost use Rattle.trace_service.specs.Documents.{IsOfReading, IsUnread};
-ghost use Rattle.trace_service.specs.InForce.{CameOf, IsNewcomer, IsTurnedAway};
+ghost use Rattle.trace_service.specs.InForce.{CameOf, IsNewcomer, IsNewcomerBy, IsTurnedAway, IsTurnedAwayBy};
 ghost use Rattle.trace_service.specs.Roster.{present_in};
 ghost use Rattle.trace_service.specs.declared.comings.NotAdded.TheVariants as why;
 
@@ -28,7 +29,7 @@ use std::net::{Net, TcpListener, TcpStream};
 use std::sync::Wait;
 use std::time::Clock;
 use std::{io, str};
-use tail_settings::SettingsFault;
+use tail_settings::{Document, SettingsFault};
 use tenant_shard::{Outcome, Step};
 
 /// What is told where a file can't be read, or has no text: that it has no document.
@@ -143,8 +144,7 @@ where
         }
     }
 
-    /// The tenant of a document, let in by the settings in force. They are locked until all of the document is read:
-    /// meanwhile no message finds its tenant.
+    /// The tenant of a document, let in by the settings in force. No lock is held while the text is parsed.
     fn newcomer(&self, text: &str) -> Result<Newcomer, SettingsFault>
         ensures on_success { IfOk result (λ newcomer. (now : SettingsData) × CameOf J.first now
             × IsNewcomer now text.now newcomer) }
@@ -152,7 +152,21 @@ where
             × CameOf J.first left
             × IsTurnedAway now text.now (fault_view e) left) }
     {
-        self.settings.lock(self.rt).admit(self.alloc, text)
+        let document = Document::parse(self.alloc, text)?;
+        self.admit(&document)
+    }
+
+    /// The same of a document that was parsed. The settings are locked while its keys are read, and it isn't freed
+    /// meanwhile.
+    fn admit(&self, document: &Document) -> Result<Newcomer, SettingsFault>
+        ensures on_success { IfOk result (λ newcomer. (now : SettingsData) × CameOf J.first now
+            × IsNewcomerBy (admitted_table now (document_view document.now)) now newcomer) }
+        ensures fault { IfErr result (λ e. (now left : SettingsData) × CameOf J.first now
+            × CameOf J.first left
+            × IsTurnedAwayBy (admitted_table now (document_view document.now)) now (fault_view e)
+            left) }
+    {
+        self.settings.lock(self.rt).admit(self.alloc, document)
     }
 
     /// Has a newcomer join its shard: the line that says so. Where it can't, the settings forget it.

@@ -3,11 +3,11 @@
 ghost use Rattle.std.specs.Prelude.{◌≡◌, Ok, IfOk, OnOk, IfErr, IfSome, IsSome, map, option_map, string_bytes};
 ghost use Rattle.http_edge.specs.Seen.{seen};
 ghost use Rattle.otlp_front.specs.Route.{names_in, route_of};
-ghost use Rattle.tail_settings.specs.Change.{admitted, struck};
+ghost use Rattle.tail_settings.specs.Change.{admitted_table, struck};
 ghost use Rattle.tail_settings.specs.Fault.{fault_view};
 ghost use Rattle.tail_settings.specs.Section.{section_view};
-ghost use Rattle.tail_settings.specs.Settings.{number_of, settings_view, tenant_at, section_at};
-ghost use Rattle.trace_service.specs.InForce.{CameOf, IsNewcomer, IsTenant, IsTurnedAway, IsWhere};
+ghost use Rattle.tail_settings.specs.Settings.{document_view, number_of, settings_view, tenant_at, section_at};
+ghost use Rattle.trace_service.specs.InForce.{CameOf, IsNewcomerBy, IsTenant, IsTurnedAwayBy, IsWhere};
 ghost use Rattle.trace_service.specs.Roster.{entry_of};
 
 use crate::naming::Naming;
@@ -20,7 +20,7 @@ use otlp_front::{Route, RouteRefusal, route};
 use std::alloc::{AllocError, Global};
 use std::marker::PhantomData;
 use std::sync::{Mutex, Wait};
-use tail_settings::{Section, Settings, SettingsFault};
+use tail_settings::{Document, Section, Settings, SettingsFault};
 
 /// Where a message goes.
 #[derive(Drop)]
@@ -145,15 +145,18 @@ impl<J: Naming> InForce<J> {
 
     /// Lets in the one tenant of a document, which gets the next number. Where memory is refused for what is told of
     /// it, it is taken out again.
-    pub fn admit(&mut self, alloc: Global, text: &str) -> Result<Newcomer, SettingsFault>
-        ensures on_success { IfOk result (λ newcomer.
-            IsNewcomer (settings_view self.old.settings) text.now newcomer) }
-        ensures grown { OnOk result (admitted (settings_view self.old.settings) text.now
+    pub fn admit(&mut self, alloc: Global, document: &Document) -> Result<Newcomer, SettingsFault>
+        ensures on_success { let now = settings_view self.old.settings in
+            IfOk result (λ newcomer. IsNewcomerBy (admitted_table now (document_view document.now))
+            now newcomer) }
+        ensures grown { let now = settings_view self.old.settings in
+            OnOk result (admitted_table now (document_view document.now)
             ≡ Ok (settings_view self.new.settings)) }
-        ensures fault { IfErr result (λ e. IsTurnedAway (settings_view self.old.settings) text.now
-            (fault_view e) (settings_view self.new.settings)) }
+        ensures fault { let now = settings_view self.old.settings in
+            IfErr result (λ e. IsTurnedAwayBy (admitted_table now (document_view document.now))
+            now (fault_view e) (settings_view self.new.settings)) }
     {
-        let number = self.settings.admit(alloc, text)?;
+        let number = self.settings.admit_document(alloc, document)?;
         match self.newcomer(alloc, number) {
             Ok(newcomer) => Ok(newcomer),
             Err(error) => {

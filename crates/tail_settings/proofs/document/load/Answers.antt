@@ -21,7 +21,7 @@ returns-in_err-tenants-clause-not_toml c = settings_of-not_toml c.args.text.now
 pub invariant_of-result : goal.invariant_of-result
 invariant_of-result c =
     let es = c.in_ok-tenants.tenants.entries in
-    let placed = (tenants_of-sound (table_view c.in_ok-document.document) (map tenant_view es) c.in_ok-tenants.ensures.meaning).3 in
+    let placed = (tenants_of-sound (table_view c.in_ok-document.document.table) (map tenant_view es) c.in_ok-tenants.ensures.meaning).3 in
     let few : c.spans.result ≤ 2 ^ 31 = omega arith in
     let numbers : c.len-next.result ≤ 2 ^ 32 = omega (arith, c.len-next.ensures.len, c.in_ok-tenants.ensures.at_most_1000) in
     record {

@@ -8,7 +8,7 @@ use Rattle.tail_settings.specs.Global.{global_view}
 use Rattle.tail_settings.specs.Settings.{TenantData, tenant_view}
 use Rattle.tail_settings.proofs.Numbers.{Rise, Rise-push, below-push}
 use Rattle.tail_settings.proofs.Tenants.{Entry, Entries}
-use Rattle.tail_settings.proofs.settings.Settings.admit.Goals as goal
+use Rattle.tail_settings.proofs.settings.Settings.admit_document.Goals as goal
 
 pub invariant_of-self-2 : goal.invariant_of-self-2
 invariant_of-self-2 c =

@@ -1,0 +1,138 @@
+use Rattle.std.proofs.Common.{rules, arith, ◌≡◌, ◌-◌, ◌<◌, ◌^◌, ℕ, Bool, true, false, is_some, Ok, Some, length, sym, subst, ◌∙◌}
+use Rattle.std.proofs.lemmas.Bool.Decides.{nat_tests}
+use Rattle.pb_wire.specs.Grammar.{Entry, entry}
+use Rattle.pb_wire.specs.Reading.{next_at}
+use Rattle.otlp_trace.specs.Data.{AnyValueData}
+use Rattle.otlp_read.specs.AnyValue.{no_value, no_array, no_list, no_key_value, any_step_in, array_step_in, list_step_in, key_value_step}
+use Rattle.otlp_read.specs.Nested.{known_of_any}
+use Rattle.otlp_canonical.specs.Anew.{IsPair, IsFirst}
+use Rattle.otlp_canonical.specs.Inner.{ReadAlike, FieldAlike, PutFor}
+use Rattle.otlp_canonical.proofs.Respelled.{spelled_put, any_spelled, wrapped, array_put, list_put, nothing_alike, value_alike, none_put, one_put, all_put, value_put, pair_put, key_alike, pair_alike}
+use Rattle.otlp_canonical.proofs.Inside.{holding}
+use Rattle.otlp_canonical.proofs.Parts.{nothing}
+use Rattle.otlp_canonical.proofs.anew.+put.Goals as goal
+
+pub put_pair-returns-then-not-pair : goal.put_pair-returns-then-not-pair
+put_pair-returns-then-not-pair t c whole =
+    let at : c.saturating_sub-depth.result ≡ 101 - c.args.room = search rules in
+    let none : c.in-Some.pair.has_value ≡ false = search rules in
+    let key = c.in-Some.pair.key.now in
+    let value = c.in-Some.pair.value.now in
+    let is : IsPair (101 - c.args.room) c.args.text.now key value c.in-Some.pair.has_value = subst (λ (d : ℕ). IsPair d c.args.text.now key value c.in-Some.pair.has_value) at c.in-Some.ensures in
+    let bare : IsPair (101 - c.args.room) c.args.text.now key value false = subst (λ (has : Bool). IsPair (101 - c.args.room) c.args.text.now key value has) none is in
+    let fits : length c.put_some_bytes.new.out.items < 2 ^ 64 = omega arith in
+    key_alike c.args.room c.args.text.now key value c.args.copy.now.items c.put_some_bytes.new.out.items (omega arith) bare fits (search rules)
+
+pub put_pair-returns : goal.put_pair-returns
+put_pair-returns t c whole =
+    let at : c.saturating_sub-depth.result ≡ 101 - c.args.room = search rules in
+    let some : c.in-Some.pair.has_value ≡ true = search rules in
+    let key = c.in-Some.pair.key.now in
+    let value = c.in-Some.pair.value.now in
+    let is : IsPair (101 - c.args.room) c.args.text.now key value c.in-Some.pair.has_value = subst (λ (d : ℕ). IsPair d c.args.text.now key value c.in-Some.pair.has_value) at c.in-Some.ensures in
+    let both : IsPair (101 - c.args.room) c.args.text.now key value true = subst (λ (has : Bool). IsPair (101 - c.args.room) c.args.text.now key value has) some is in
+    let keyed = c.put_some_bytes.new.out.items in
+    let mid = c.put_value.new.copy.items in
+    let new = c.wrap_in_field.new.out.items in
+    let a : ReadAlike any_step_in no_value (c.args.room - 1) value keyed mid = search rules in
+    let fits : length mid < 2 ^ 64 = omega arith in
+    let keyed_fits : length keyed < 2 ^ 64 = omega arith in
+    let f : FieldAlike any_step_in no_value (c.args.room - 1) 2 value keyed new = wrapped any_step_in no_value (c.args.room - 1) 2 c.len-start.result value keyed mid new (search rules) fits (search rules) a in
+    pair_alike c.args.room c.args.text.now key value c.args.copy.now.items keyed new (omega arith) both keyed_fits (search rules) f
+
+pub put_value-returns-then-is_empty : goal.put_value-returns-then-is_empty
+put_value-returns-then-is_empty t c whole =
+    let none : length c.args.text.now ≡ 0 = grind (arith, nat_tests) in
+    nothing_alike any_step_in no_value c.args.room c.args.text.now c.args.copy.now.items (nothing c.args.text.now none)
+
+pub put_value-returns : goal.put_value-returns
+put_value-returns t c whole =
+    let d = c.saturating_sub-depth.result in
+    let at : d ≡ 101 - c.args.room = search rules in
+    let field = entry c.in-Ok-Some.field in
+    let rest = c.in-Ok-Some.rest.now in
+    let found : next_at d c.args.text.now ≡ Ok (Some (field, rest)) = search rules in
+    let there : next_at (101 - c.args.room) c.args.text.now ≡ Ok (Some (field, rest)) = subst (λ (n : ℕ). next_at n c.args.text.now ≡ Ok (Some (field, rest))) at found in
+    let short : length rest ≡ 0 = grind (arith, nat_tests) in
+    value_alike c.args.room c.args.text.now rest c.args.copy.now.items c.put_kind.new.copy.items field (omega arith) there (nothing rest short) (c.in_ok-whole.ensures (101 - c.args.room) whole)
+
+pub put_kind-returns-in_ok-wrap_in_field-in-Bytes : goal.put_kind-returns-in_ok-wrap_in_field-in-Bytes
+put_kind-returns-in_ok-wrap_in_field-in-Bytes t c d whole =
+    let bytes = c.in-Bytes.text.now in
+    let same : entry c.args.field ≡ holding 5 bytes = search rules in
+    let mid = c.put_array.new.copy.items in
+    let new = c.wrap_in_field.new.out.items in
+    let a : ReadAlike array_step_in no_array c.args.room bytes c.args.copy.now.items mid = search rules in
+    let fits : length mid < 2 ^ 64 = omega arith in
+    subst (λ (f : Entry). PutFor any_step_in IsFirst c.args.room d 0 f c.args.copy.now.items new) (sym same)
+    (array_put c.args.room d bytes c.args.copy.now.items new (wrapped array_step_in no_array c.args.room 5 c.len-start.result bytes c.args.copy.now.items mid new (search rules) fits (search rules) a))
+
+pub put_kind-returns-in_ok-wrap_in_field-in-Bytes-2 : goal.put_kind-returns-in_ok-wrap_in_field-in-Bytes-2
+put_kind-returns-in_ok-wrap_in_field-in-Bytes-2 t c d whole =
+    let bytes = c.in-Bytes-2.text.now in
+    let same : entry c.args.field ≡ holding 6 bytes = search rules in
+    let mid = c.put_list.new.copy.items in
+    let new = c.wrap_in_field-in-Bytes-2.new.out.items in
+    let a : ReadAlike list_step_in no_list c.args.room bytes c.args.copy.now.items mid = search rules in
+    let fits : length mid < 2 ^ 64 = omega arith in
+    subst (λ (f : Entry). PutFor any_step_in IsFirst c.args.room d 0 f c.args.copy.now.items new) (sym same)
+    (list_put c.args.room d bytes c.args.copy.now.items new (wrapped list_step_in no_list c.args.room 6 c.len-start.result bytes c.args.copy.now.items mid new (search rules) fits (search rules) a))
+
+pub put_kind-returns-in_ok-whole-in_default : goal.put_kind-returns-in_ok-whole-in_default
+put_kind-returns-in_ok-whole-in_default t c d whole =
+    let known : (room : ℕ) (v : AnyValueData) → is_some (known_of_any room v (entry c.args.field).number (entry c.args.field).value) ≡ true = λ room v. c.knows.ensures room v ∙ search rules in
+    spelled_put any_step_in IsFirst c.args.room d 0 (entry c.args.field) c.args.copy.now.items c.put_short.new.copy.items (any_spelled c.args.room (entry c.args.field) known) (c.in_ok-whole-in_default.ensures whole)
+
+pub put_array-values-init : goal.put_array-values-init
+put_array-values-init t c = none_put array_step_in no_array c.args.room c.args.text.now c.args.copy.now.items
+
+pub put_array-values-preserved : goal.put_array-values-preserved
+put_array-values-preserved t c =
+    let d = c.saturating_sub-depth.result in
+    let at : d ≡ 101 - c.args.room = search rules in
+    let left = c.values.left.now in
+    let rest = c.in-Ok-Some.rest.now in
+    let bytes = c.in-Bytes.value.now in
+    let found : next_at d left ≡ Ok (Some (entry c.in-Ok-Some.field, rest)) = search rules in
+    let is : entry c.in-Ok-Some.field ≡ holding 1 bytes = search rules in
+    let same : next_at d left ≡ Ok (Some (holding 1 bytes, rest)) = subst (λ (e : Entry). next_at d left ≡ Ok (Some (e, rest))) is found in
+    let there : next_at (101 - c.args.room) left ≡ Ok (Some (holding 1 bytes, rest)) = subst (λ (n : ℕ). next_at n left ≡ Ok (Some (holding 1 bytes, rest))) at same in
+    let old = c.values.copy.items in
+    let mid = c.put_value.new.copy.items in
+    let new = c.wrap_in_field.new.out.items in
+    let a : ReadAlike any_step_in no_value (c.args.room - 1) bytes old mid = search rules in
+    let fits : length mid < 2 ^ 64 = omega arith in
+    one_put array_step_in no_array c.args.room c.args.text.now c.args.copy.now.items old new left rest bytes there
+    (value_put (c.args.room - 1) (101 - c.args.room) bytes old new (wrapped any_step_in no_value (c.args.room - 1) 1 c.len-start.result bytes old mid new (search rules) fits (search rules) a)) c.values.invariant
+
+pub put_array-returns : goal.put_array-returns
+put_array-returns t c whole =
+    let none : length c.values.left.now ≡ 0 = grind (arith, nat_tests) in
+    all_put array_step_in no_array c.args.room c.args.text.now c.args.copy.now.items c.values.copy.items c.values.left.now (omega arith) (nothing c.values.left.now none) c.values.invariant
+
+pub put_list-pairs-init : goal.put_list-pairs-init
+put_list-pairs-init t c = none_put list_step_in no_list c.args.room c.args.text.now c.args.copy.now.items
+
+pub put_list-pairs-preserved : goal.put_list-pairs-preserved
+put_list-pairs-preserved t c =
+    let d = c.saturating_sub-depth.result in
+    let at : d ≡ 101 - c.args.room = search rules in
+    let left = c.pairs.left.now in
+    let rest = c.in-Ok-Some.rest.now in
+    let bytes = c.in-Bytes.pair.now in
+    let found : next_at d left ≡ Ok (Some (entry c.in-Ok-Some.field, rest)) = search rules in
+    let is : entry c.in-Ok-Some.field ≡ holding 1 bytes = search rules in
+    let same : next_at d left ≡ Ok (Some (holding 1 bytes, rest)) = subst (λ (e : Entry). next_at d left ≡ Ok (Some (e, rest))) is found in
+    let there : next_at (101 - c.args.room) left ≡ Ok (Some (holding 1 bytes, rest)) = subst (λ (n : ℕ). next_at n left ≡ Ok (Some (holding 1 bytes, rest))) at same in
+    let old = c.pairs.copy.items in
+    let mid = c.put_pair.new.copy.items in
+    let new = c.wrap_in_field.new.out.items in
+    let a : ReadAlike key_value_step no_key_value (c.args.room - 1) bytes old mid = search rules in
+    let fits : length mid < 2 ^ 64 = omega arith in
+    one_put list_step_in no_list c.args.room c.args.text.now c.args.copy.now.items old new left rest bytes there
+    (pair_put (c.args.room - 1) (101 - c.args.room) bytes old new (wrapped key_value_step no_key_value (c.args.room - 1) 1 c.len-start.result bytes old mid new (search rules) fits (search rules) a)) c.pairs.invariant
+
+pub put_list-returns : goal.put_list-returns
+put_list-returns t c whole =
+    let none : length c.pairs.left.now ≡ 0 = grind (arith, nat_tests) in
+    all_put list_step_in no_list c.args.room c.args.text.now c.args.copy.now.items c.pairs.copy.items c.pairs.left.now (omega arith) (nothing c.pairs.left.now none) c.pairs.invariant

@@ -1,0 +1,9 @@
+use Rattle.std.proofs.Common.{length}
+use Rattle.otlp_canonical.proofs.Respelled.{Pairing}
+use Rattle.otlp_canonical.proofs.anew.split_pair.Given as goal
+
+abbrev pub invariant-fields : goal.invariant-fields
+invariant-fields l = Pairing l.depth l.text l.left l.key l.value l.has_value
+
+abbrev pub decreases-fields : goal.decreases-fields
+decreases-fields l = length l.left

@@ -1,0 +1,171 @@
+//! Spans whose fields are in order, of which some are put anew one by one: what isn't canonical in an attribute, and
+//! events, links and statuses that are read and written.
+
+ghost use Rattle.std.specs.Prelude.{◌≡◌, ◌-◌, ◌<◌, ◌++◌, ℕ, true, [], IfOk, IfSome};
+ghost use Rattle.pb_wire.specs.Grammar.{entry, IsField};
+ghost use Rattle.otlp_canonical.specs.Anew.{WrittenAnew};
+ghost use Rattle.otlp_canonical.specs.Canonical.{CanonicalCopy};
+ghost use Rattle.otlp_canonical.specs.Defaults.{DefaultsAbove};
+ghost use Rattle.otlp_canonical.specs.Inner.{FieldAlike, PutFor};
+ghost use Rattle.otlp_trace.specs.Defaults.{no_span};
+ghost use Rattle.otlp_read.specs.AnyValue.{no_key_value, key_value_step};
+ghost use Rattle.otlp_read.specs.Value.{span_step};
+ghost use Rattle.otlp_read.specs.Walk.{read_with};
+
+use crate::anew::{put_pair, put_short};
+use crate::attribute::field_size;
+use crate::defaults::is_default;
+use crate::message::Canonical;
+use crate::text::is_span_text;
+use crate::unknown::Keeping;
+use otlp_read::{ReadFault, read_span, span_is_typed};
+use otlp_trace::{Event, KeyValue, Link, Span, Status, wrap_in_field, write_span};
+use pb_wire::{Field, Value, next_field};
+use std::alloc::{AllocError, Global};
+
+/// Whether a span's field, which takes so many bytes, stays as it is: if the span doesn't know it, or if it holds a
+/// message's canonical text behind a length that is as short as it can be.
+fn stays(field: Field<'_>, size: usize, room: u32) -> bool {
+    let Value::Bytes(text) = field.value else {
+        return !Span::knows(field);
+    };
+    let canonical = match field.number {
+        9 => KeyValue::check(text, room).is_some(),
+        11 => Event::check(text, room).is_some(),
+        13 => Link::check(text, room).is_some(),
+        15 => Status::check(text, room).is_some(),
+        1..=5 => false,
+        _ => return true,
+    };
+    canonical && size == field_size(text.len())
+}
+
+/// Appends what is written of the span that a reader makes of the text. Tells whether it did.
+fn put_read(alloc: Global, copy: &mut Vec<u8>, text: &[u8], room: u32) -> Result<bool, AllocError>
+    ensures { IfOk result (λ whole. whole ≡ true
+        → WrittenAnew room text.now copy.old.items copy.new.items) }
+{
+    if room > 101 {
+        return Ok(false);
+    }
+    let span = match read_span(alloc, text, room) {
+        Ok(span) => span,
+        Err(ReadFault::OutOfMemory) => return Err(AllocError),
+        Err(_) => return Ok(false),
+    };
+    span_is_typed(&span);
+    write_span(alloc, copy, &span)?;
+    Ok(true)
+}
+
+/// Appends an attribute of a span anew.
+fn put_attribute(copy: &mut Vec<u8>, text: &[u8], room: u32) -> Result<bool, AllocError>
+    ensures { IfOk result (λ whole. whole ≡ true
+        → FieldAlike key_value_step no_key_value room 9 text.now copy.old.items copy.new.items) }
+{
+    let start = copy.len();
+    if !put_pair(copy, text, room)? {
+        return Ok(false);
+    }
+    wrap_in_field(copy, start, 9)?;
+    Ok(true)
+}
+
+/// Appends a span's field anew, behind fields of numbers up to `most`. Tells whether it did.
+fn put_anew(
+    alloc: Global,
+    copy: &mut Vec<u8>,
+    field: Field<'_>,
+    spelled: &[u8],
+    most: u32,
+    room: u32,
+) -> Result<bool, AllocError>
+    requires spelled { IsField (101 - room) spelled.now (entry field) }
+    ensures { (d : ℕ) → IfOk result (λ whole. whole ≡ true
+        → PutFor span_step DefaultsAbove (room - 1) d most (entry field.entry)
+        copy.old.items copy.new.items) }
+{
+    if is_default(field) {
+        return Ok(most < field.number);
+    }
+    if room == 0 {
+        return Ok(false);
+    }
+    if !Span::knows(field) {
+        return Ok(false);
+    }
+    let Value::Bytes(text) = field.value else {
+        let whole = put_short(copy, field)?;
+        return Ok(whole);
+    };
+    let whole = match field.number {
+        9 => put_attribute(copy, text, room - 1)?,
+        11 => put_read(alloc, copy, spelled, room)?,
+        13 => put_read(alloc, copy, spelled, room)?,
+        15 if most < 15 => put_read(alloc, copy, spelled, room)?,
+        15 => false,
+        _ => put_short(copy, field)?,
+    };
+    Ok(whole)
+}
+
+/// Appends the text with what isn't canonical in it put anew, and tells what is left to copy.
+fn put_fields<'a>(
+    alloc: Global,
+    copy: &mut Vec<u8>,
+    text: &'a [u8],
+    room: u32,
+) -> Result<Option<&'a [u8]>, AllocError>
+    requires some { 0 < room }
+    requires none { copy.now.items ≡ [] }
+    ensures { IfOk result (λ found. IfSome found (λ from.
+        read_with span_step room no_span text.now
+        ≡ read_with span_step room no_span (copy.new.items ++ from.now))) }
+{
+    let depth = 101u32.saturating_sub(room);
+    let mut from = text;
+    let mut left = text;
+    let mut most = 0u32;
+    'fields: while !left.is_empty() {
+        let Ok(Some((field, rest))) = next_field(left, depth) else {
+            return Ok(None);
+        };
+        if field.number < most && Span::knows(field) {
+            return Ok(None);
+        }
+        let spelled = &left[..left.len() - rest.len()];
+        if stays(field, spelled.len(), room - 1) {
+            most = most.max(field.number);
+            left = rest;
+            continue;
+        }
+        copy.extend_from_slice(&from[..from.len() - left.len()])?;
+        if !put_anew(alloc, copy, field, spelled, most, room)? {
+            return Ok(None);
+        }
+        most = most.max(field.number);
+        from = rest;
+        left = rest;
+    }
+    Ok(Some(from))
+}
+
+/// A span's canonical text, where its fields are in order.
+pub fn rewritten(alloc: Global, text: &[u8], room: u32) -> Result<Option<Vec<u8>>, AllocError>
+    ensures { IfOk result (λ found. IfSome found (λ copy. CanonicalCopy room text.now
+        copy.items)) }
+{
+    if room == 0 {
+        return Ok(None);
+    }
+    let mut copy = Vec::with_capacity(alloc, text.len())?;
+    let Some(from) = put_fields(alloc, &mut copy, text, room)? else {
+        return Ok(None);
+    };
+    copy.extend_from_slice(from)?;
+    if is_span_text(copy.as_slice(), room) {
+        Ok(Some(copy))
+    } else {
+        Ok(None)
+    }
+}
