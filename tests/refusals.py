@@ -2,8 +2,8 @@
 """Lists where a want of memory is made in the code of crates/, and fails on a place that isn't known.
 
 No contract can say that `OutOfMemory` is answered only where a growth was refused. So this looks at each place where a
-value that says so is made: `AllocError`, `AllocFailed`, a variant `OutOfMemory`, `Stopped` of `tenant_shard`, or a reply with
-the status 503, by `without_memory` or by hand. Such a value may be made
+value that says so is made: `AllocError`, `AllocFailed`, a variant `OutOfMemory`, `Stopped` of `tenant_shard`, `AnswerRefused`
+of `export_edge`, or a reply with the status 503, by `without_memory` or by hand. Such a value may be made
 - in `from` of a conversion from `AllocError` or `AllocFailed`, where it is all that stands there;
 - in an arm of a `match` whose one pattern is itself a want of memory, and so in what maps one to another;
 - in the block of an `if` that asks only whether an error's kind is `ErrorKind::OutOfMemory`;
@@ -19,7 +19,7 @@ import re
 import sys
 
 ROOT = pathlib.Path(__file__).resolve().parent.parent
-TYPES = {"AllocError", "AllocFailed", "Stopped"}
+TYPES = {"AllocError", "AllocFailed", "AnswerRefused", "Stopped"}
 REPLY = "without_memory"
 WORDS = TYPES | {"OutOfMemory", REPLY}
 
@@ -36,6 +36,7 @@ KNOWN = [
     ("tenant_shard/src/shard.rt", "run", 2, "room for the outcomes was refused, or a step was"),
     ("trace_service/src/post.rt", "without_memory", 1, "the reply itself"),
     ("trace_service/src/context.rt", "reply_to_head", 1, "bodies on their way leave too little for this one, of what they may take"),
+    ("trace_service/src/context.rt", "answer", 1, "the step with the answer was refused memory"),
     ("trace_service/src/context.rt", "admitted", 1, "memory was refused, and not all is done yet that was put off for it"),
     ("trace_service/src/changes.rt", "added", 1, "there was no memory to hear what is answered: it is no text"),
     ("trace_service/src/changes.rt", "add_answered", 1, "there was no memory to hear what is answered"),

@@ -1,5 +1,6 @@
 """How many bytes of clients' bodies may be on their way at a time, where `--body-memory` says."""
 
+import select
 import socket
 import struct
 import time
@@ -71,23 +72,27 @@ def one_at_a_time(folder):
         check("the end", service.end(), (0, line_of("a", accepted=2, not_sampled=2), b""))
 
 
-def hang_up(peer):
+def hang_up(peer, _other):
     peer.shutdown(socket.SHUT_WR)
     check("who hangs up is told", read_message(peer.recv), b"")
 
 
-def reset(peer):
+def reset(peer, _other):
     peer.setsockopt(socket.SOL_SOCKET, socket.SO_LINGER, struct.pack("ii", 1, 0))
     peer.close()
 
 
-def rest(peer):
+def rest(peer, other):
+    """Who posts beside it doesn't rest as long."""
+    while not select.select([peer], [], [], 1)[0]:
+        other.sendall(whole(PARTED))
+        check("beside who rests", read_message(other.recv), REPLY)
     check("who rests is told", read_message(peer.recv), b"")
 
 
 def says(text, status):
     """What comes then, and what is told."""
-    def go_on(peer):
+    def go_on(peer, _other):
         peer.sendall(text)
         check(text, int(read_message(peer.recv)[9:12]), status)
     return go_on
@@ -109,12 +114,14 @@ ENDS = {
 
 
 def ends(service, what, begun, end):
-    """The longest body is taken once this one has ended so, and not before."""
-    with service.connect() as peer:
+    """The longest body is taken once this one has ended so, and not before. It is posted over a connection that was there
+    before: else the thread that read this one might take it, and give back only then what it had kept."""
+    with service.connect() as other, service.connect() as peer:
+        check(f"before {what}", service.post("a", unknown(PARTED), other), DONE)
         peer.sendall(begun)
-        check(f"before the end of {what}", service.post("a", unknown(LARGEST)), FULL)
-        end(peer)
-        wait_for(lambda: service.post("a", unknown(LARGEST)) == DONE, f"{what} holds nothing")
+        check(f"before the end of {what}", service.post("a", unknown(LARGEST), other), FULL)
+        end(peer, other)
+        wait_for(lambda: service.post("a", unknown(LARGEST), other) == DONE, f"{what} holds nothing")
 
 
 def each_end(folder):
@@ -148,7 +155,7 @@ def heads_that_claim_nothing(folder):
         nobody.sendall(b"\0")
         check("a body that nobody wants", int(read_message(nobody.recv)[9:12]), 403)
         check("still beside chunks", service.post("a", unknown(PARTED), nobody), FULL)
-        says(b"0\r\n\r\n", 400)(chunks)
+        says(b"0\r\n\r\n", 400)(chunks, nobody)
         check("behind them", service.post("a", unknown(LARGEST), nobody), DONE)
         stack.close()
         check("the end", service.end(), (0, line_of("a", accepted=1, not_sampled=1), b""))
