@@ -10,9 +10,10 @@ these too (values.pb), or so with each event's name before its time (named.pb) a
 bytes, in one scope or each in a scope of its own. emptyN.pb is spans of no fields. Each of the others has 100 spans
 of some 480 bytes, with 19 fields each: in their order (ordered.pb), with the flags before the name (flags.pb), there
 with a count of 0 besides (count.pb), with the name at the end (last.pb), in reverse order (reverse.pb), so with the
-name twice (twice.pb), with the end's time twice (time.pb), or the status (status.pb), and with each attribute's value
-before its key (keys.pb) or the lengths of its key and its text in four bytes (texts.pb). Each event, link and status
-of the stored body is written in reverse order in events.pb."""
+name twice (twice.pb), with the end's time twice (time.pb), or the status, empty (status.pb), with a message in one and
+a code in the other (apart.pb) or with both in both (statuses.pb), with each attribute's value before its key (keys.pb)
+or the lengths of its key and its text in four bytes (texts.pb), and with one attribute more, whose value has two
+members (members.pb). Each event, link and status of the stored body is written in reverse order in events.pb."""
 import pathlib
 import struct
 import sys
@@ -226,6 +227,22 @@ def full_fields(index):
             (16, varint(16 << 3 | 5) + struct.pack("<I", 1))]
 
 
+def with_statuses(first, second):
+    """The fields with these two in place of the status."""
+    def order(fields):
+        return fields[:-2] + [(15, piece(15, first)), (15, piece(15, second))] + fields[-1:]
+
+    return order
+
+
+def with_members(content):
+    """A span with an attribute more whose value has two members."""
+    value = piece(1, b"v") + varint(3 << 3) + varint(5)
+    return in_order([(9, piece(9, piece(1, b"k") + piece(2, value)))], content)
+
+
+MESSAGE = piece(2, b"deadline exceeded")
+CODE = varint(3 << 3) + varint(2)
 NO_COUNT = (14, varint(14 << 3) + varint(0))
 ORDERS = {
     "ordered": lambda fields: fields,
@@ -235,7 +252,9 @@ ORDERS = {
     "reverse": lambda fields: sorted(fields, key=lambda field: -field[0]),
     "twice": lambda fields: [(5, piece(5, b"n")), *ORDERS["reverse"](fields)],
     "time": lambda fields: fields + [field for field in fields if field[0] == 8],
-    "status": lambda fields: fields[:-1] + fields[-2:],
+    "status": with_statuses(b"", b""),
+    "apart": with_statuses(MESSAGE, CODE),
+    "statuses": with_statuses(MESSAGE + CODE, MESSAGE + CODE),
 }
 
 
@@ -263,6 +282,7 @@ def main():
     bodies |= {name: ordered(order) for name, order in ORDERS.items()}
     bodies |= {"keys": changed(bodies["ordered"], each_inside({9}, reversed_fields)),
                "texts": changed(bodies["ordered"], each_inside({9}, long_texts)),
+               "members": changed(bodies["ordered"], with_members),
                "events": changed(stored, each_inside({11, 13, 15}, reversed_fields))}
     for name, body in bodies.items():
         (folder / f"{name}.pb").write_bytes(body)

@@ -11,7 +11,7 @@ from pathlib import Path
 from serving import talk
 from serving.exposition import families
 from serving.memory import bytes_of
-from serving.talk import (BUSY, MOST, NAMES, BackEnd, Service, body, check, in_threads, line_of, listening_ports,
+from serving.talk import (ALL, BUSY, MOST, NAMES, BackEnd, Service, body, check, in_threads, line_of, listening_ports,
                           read_message, tenant, wait_for)
 
 TOKEN = "Zm9yIHRlc3RzIGFsb25l"
@@ -284,6 +284,11 @@ def asked_in(folder):
             status, told = service.told("/tenants", "POST", text)
             check(f"of {text[:20]!r}: {told}", (status, words in told["error"]), (422, True))
             check("that is printed", service.hear()[:12], "refused add ")
+        for text, words in ((tenant("many", back_end, policies=ALL * 65), "tenant 1 (many), more than 64 policies"),
+                            (tenant("big", back_end, most=2_147_483_000), "there would be more tenants, or more spans")):
+            status, told = service.told("/tenants", "POST", text.encode())
+            check(f"too much: {told}", (status, words in told["error"]), (422, True))
+            check("that is printed", service.hear(), "refused add 15\n")
         two = tenant("x", back_end) + tenant("y", back_end)
         check("two of them", service.told("/tenants", "POST", two.encode())[0], 422)
         service.hear()

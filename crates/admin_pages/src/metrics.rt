@@ -1,4 +1,6 @@
 //! Figures as a scraper reads them.
+//!
+//! Where memory is refused, a part of what was asked for may have been appended.
 
 ghost use Rattle.std.specs.Prelude.{◌≡◌, ◌++◌, map, decimal, string_bytes, IfOk, OnOk};
 ghost use Rattle.admin_pages.specs.Figures.{tenant_of};

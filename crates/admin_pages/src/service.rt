@@ -1,4 +1,6 @@
 //! Figures of a whole service.
+//!
+//! Where memory is refused, a part of what was asked for may have been appended.
 
 ghost use Rattle.std.specs.Prelude.{◌≡◌, ◌∷◌, ◌++◌, map, OnOk};
 ghost use Rattle.admin_pages.specs.Metrics.{sample_of};

@@ -1,4 +1,6 @@
 //! A tenant's settings as JSON.
+//!
+//! Where memory is refused, a part of what was asked for may have been appended.
 
 ghost use Rattle.std.specs.Prelude.{◌≡◌, ◌++◌, [], map, OnOk, string_bytes};
 ghost use Rattle.tail_settings.specs.Batch.{batch_view};

@@ -58,7 +58,7 @@ a_default_behind_its_own_field 2a016e2201332200 2a016e\n\
 a_default_twice 2a016e22002200 2a016e\n\
 # In order the text still isn't canonical.\n\
 a_name_twice 2a016e0a01312a016f 0a01312a016f\n\
-a_status_twice 7a002a016e7a00 none\n\
+a_status_twice 7a002a016e7a00 2a016e7a00\n\
 a_length_in_more_bytes 2a81006e0a0131 0a01312a016e\n\
 a_tag_in_more_bytes aa00016e0a0131 0a01312a016e\n\
 a_name_that_is_no_text 2a01ff0a0131 none\n\
@@ -104,6 +104,23 @@ a_name_that_is_no_text_and_a_name 2a01ff2a016e none\n\
 a_trace_state_that_is_no_text_before_one 1a01ff1a0173 none\n\
 a_count_in_more_bytes 508300 5003\n\
 a_kind_of_more_bits 308280808010 none\n\
+# Statuses are merged, and each must be sound by itself.\n\
+a_message_and_a_code_in_two_statuses 7a0312016d7a021802 7a0512016d1802\n\
+a_code_and_a_message_in_two_statuses 7a0218027a0312016d 7a0512016d1802\n\
+statuses_apart 7a0312016d2a016e7a021802850101000000 2a016e7a0512016d1802850101000000\n\
+three_statuses 7a0312016d7a0218017a0512016e1802 7a0512016e1802\n\
+a_message_in_each_status 7a0312016d7a0312016e 7a0312016e\n\
+a_code_and_a_code_of_none 7a0218027a021800 7a00\n\
+an_empty_status_and_a_full_one 7a007a0512016d1802 7a0512016d1802\n\
+a_full_status_and_an_empty_one 7a0512016d18027a00 7a0512016d1802\n\
+a_status_and_a_long_one 7a0312016d7a828080001802 7a0512016d1802\n\
+not_known_in_two_statuses 7a05200112016d7a0428021802 7a0912016d180220012802\n\
+statuses_in_reverse_among_others 7a05180212016d4a030a016b7a0312016e0a0131 0a01314a030a016b7a0512016e1802\n\
+a_status_of_no_fields_and_one 7a01127a021802 none\n\
+a_status_and_one_that_is_cut 7a0218027a0312026d none\n\
+two_statuses_that_are_a_field_together 7a0212027a026d6e none\n\
+a_message_that_is_no_text_in_the_first_status 7a031201ff7a0312016d none\n\
+a_field_of_another_type_at_a_status 78017a0218027a0312016d 7a0512016d18027801\n\
 # These aren't fields.\n\
 cut 2a016e0a013130 none\n\
 flags_cut 2a016e0a01318501000000 none\n\

@@ -6,6 +6,7 @@ ghost use Rattle.http_edge.specs.Stages.{IsAt};
 ghost use Rattle.http_edge.specs.AnswerBody.{Keeps, HasCome, IsPlainPieces, IsChunkPieces, IsPlainBody, IsAnswerBody};
 
 use crate::chunks::{ChunkedState, Piece, next_piece};
+use crate::limits::{MAX_FIELDS, MAX_PART};
 use crate::wire::{AnswerRoom, EdgeFault, Watch, drop_front, fill};
 use http_line::Line;
 use http1::Limits;
@@ -15,10 +16,6 @@ use httparse::spans::EMPTY_HEADER_SPAN;
 use std::alloc::{AllocError, Global};
 
 const MAX_KEPT: usize = 4_194_304;
-
-const MAX_FIELDS: usize = 64;
-
-const MAX_PART: usize = 65536;
 
 /// The body of an answer as far as it has come: its bytes, and none once there are too many.
 #[derive(Drop)]

@@ -8,16 +8,13 @@ ghost use Rattle.http_edge.specs.Post.{is_bodiless_status, answer_framing_in, re
 ghost use Rattle.http_edge.specs.AnswerBody.{IsAnswerHeadProgress};
 
 use crate::fields::{field, framing_in, number};
+use crate::limits::{MAX_FIELDS, MAX_HEAD};
 use crate::single::Single;
 use crate::wire::{AnswerRoom, EdgeFault, Watch, fill};
 use http_line::Line;
 use http1::framing::Framing;
 use httparse::Status;
 use httparse::spans::{EMPTY_HEADER_SPAN, HeaderSpan, ResponseSpans, parse_response};
-
-const MAX_HEAD: usize = 65536;
-
-const MAX_FIELDS: usize = 64;
 
 const MOST_DIGITS: usize = 10;
 

@@ -8,11 +8,10 @@ ghost use Rattle.http_edge.specs.Stages.{frame_by, bytes_due, Gathers, IsAt, IsP
 
 use crate::chunks::{ChunkedState, Piece, bytes_due, next_piece};
 use crate::head::BodyKind;
+use crate::limits::MAX_BODY;
 use crate::wire::{EdgeFault, READ_AT_MOST, Room, Watch, drop_front, fill};
 use http_line::Line;
 use std::alloc::{AllocError, Global};
-
-const MAX_BODY: usize = 20_971_520;
 
 /// Room for so many bytes of a body is made before they come, so that a head alone takes no more.
 const FIRST_ROOM: usize = 1_048_576;
@@ -302,7 +301,7 @@ fn take_pieces(
         let rest = &bytes[at..];
         match next_piece(*part, rest) {
             Piece::Passed { len, next } => {
-                if bytes_due(next) > (MAX_BODY - body.len) as u64 {
+                if bytes_due(next) > MAX_BODY - body.len as u64 {
                     return Ok((at, Pieces::TooLong));
                 }
                 *part = next;

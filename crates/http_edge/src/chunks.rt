@@ -3,12 +3,9 @@ ghost use Rattle.std.specs.Prelude.{◌≡◌, ℕ, ◌<◌, ◌≤◌, List, le
 ghost use Rattle.http_edge.specs.Chunks.{line_ends};
 ghost use Rattle.http_edge.specs.Stages.{bytes_due, piece_len, IsStep, IsAt, IsPiece};
 
+use crate::limits::{MAX_FIELDS, MAX_PART};
 use httparse::spans::{EMPTY_HEADER_SPAN, parse_headers};
 use httparse::{Status, parse_chunk_size};
-
-const MAX_PART: usize = 65536;
-
-const MAX_FIELDS: usize = 64;
 
 /// What is due next: the line of a chunk, so many bytes of data and the end of their line, or the trailer.
 #[derive(Clone, Copy, Debug, Drop, PartialEq, Eq)]

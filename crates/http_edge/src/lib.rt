@@ -2,7 +2,8 @@
 //!
 //! [`serve`] reads messages and writes a [`Handler`]'s replies; [`write_post`] writes a post to a back end, and
 //! [`read_answer`] reads what it answers. What is written and answered is settled by the bytes read, however they were
-//! cut ([`one_talk`], [`one_answer`]). [`only_value`] says what stands in a field of a message.
+//! cut ([`one_talk`], [`one_answer`]). [`only_value`] says what stands in a field of a message, and [`MAX_BODY`] how
+//! long its body may be.
 //!
 //! Rules are those of RFC 9110 and RFC 9112, with this project's own choices where they leave one (docs/HTTP.md).
 //! Heads, the lines of chunks and trailers are read by `httparse`.
@@ -15,6 +16,7 @@ mod body;
 mod chunks;
 mod fields;
 mod head;
+mod limits;
 mod message;
 mod post;
 mod reply;
@@ -23,6 +25,7 @@ mod single;
 mod wire;
 
 pub use crate::answer::{one_answer, read_answer};
+pub use crate::limits::MAX_BODY;
 pub use crate::message::{
     Allow, Handler, Header, HttpMessage, MediaType, RefusalForm, Reply, one_talk,
 };

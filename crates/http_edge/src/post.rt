@@ -10,6 +10,8 @@ use http_line::Line;
 use std::alloc::{AllocError, Global};
 
 /// Writes a post of a payload.
+///
+/// The host isn't looked at: that it has no line end, and is what RFC 9112, 3.2, wants, is for the caller.
 pub fn write_post<L: Line>(
     alloc: Global,
     line: &mut L,

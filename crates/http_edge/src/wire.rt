@@ -8,6 +8,7 @@ ghost use Rattle.http_edge.specs.Steps.{work, HasFailed};
 ghost use Rattle.http_edge.specs.Fault.{fault_number};
 ghost use Rattle.http_edge.specs.declared.wire.EdgeFault.TheVariants.{ReadFailed, WriteFailed, OutOfMemory};
 
+use crate::limits::MAX_PART;
 use http_line::{Line, LineFailed};
 use std::alloc::AllocError;
 use thiserror::Error;
@@ -94,9 +95,6 @@ pub(crate) fn fill<L: Line>(
         Err(LineFailed) => Err(EdgeFault::ReadFailed),
     }
 }
-
-/// So many bytes without the end of what is looked for are refused.
-const MAX_PART: usize = 65536;
 
 /// When to look at the front of a buffer again, to which bytes are added: where a line has ended, where they are twice
 /// as many as at the last look, and where they are too many. So what is looked at anew stays in proportion to what

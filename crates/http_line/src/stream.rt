@@ -4,6 +4,7 @@ ghost use Rattle.std.specs.Prelude.{◌≡◌, ◌+◌, ◌-◌, ◌^◌, ◌≤
 use crate::{Line, LineFailed};
 use std::io::{ErrorKind, Read, Write};
 
+/// So many reads are made at most.
 const MOST_READS: u64 = 1 << 62;
 
 /// So often a write is tried that is interrupted each time.
@@ -13,14 +14,18 @@ const MOST_WRITES: u64 = 1 << 62;
 #[derive(Drop)]
 pub struct StreamLine<S> {
     stream: S,
+    // How many calls failed, up to 2^64 - 1.
     failures: u64,
+    // How many reads into room gave no byte. They are among `reads`.
     ends: u64,
+    // How many reads were made, at most 2^62. Each try of a call counts.
     reads: u64,
     ghost counted: { reads ≤ 2 ^ 62 },
     ghost ended: { ends ≤ reads },
 }
 
 impl<S: Read + Write> StreamLine<S> {
+    /// A line over this stream. What its calls come to is counted from here on.
     pub fn new(stream: S) -> StreamLine<S>
         ensures stream { result.stream ≡ stream }
         ensures failures { result.failures ≡ 0 }

@@ -1,5 +1,5 @@
 -- A message in a field is put anew, without its defaults and with lengths as short as they can be.
-use Rattle.std.proofs.Common.{◌≡◌, ℕ, Bool, true, ◌+◌, ◌-◌, ◌<◌, ◌^◌, List, [], ◌++◌, length, None, Some, Result, Ok, sym, ap, ◌∙◌, append-nil, append_assoc, length-append, arith}
+use Rattle.std.proofs.Common.{◌≡◌, ℕ, Bool, true, ◌+◌, ◌-◌, ◌<◌, ◌^◌, List, [], ◌++◌, length, None, Some, Result, Ok, refl, sym, ap, ◌∙◌, append-nil, append_assoc, length-append, arith}
 use Rattle.pb_wire.specs.declared.field.WireType.TheVariants as types
 use Rattle.pb_wire.specs.Grammar.{Entry, Bytes, IsField}
 use Rattle.pb_wire.specs.Reading.{next_at}
@@ -88,3 +88,7 @@ field_alike step none room number size text old tagged sized new tag length_ at 
       short = omega (arith, same, fits);
       same = a.same;
     }
+
+-- the text itself
+pub copied_alike : {A : Type 0} (step : ℕ → Step A) (none : A) (room number : ℕ) (text old new : List ℕ) → length text < 2 ^ 64 → new ≡ old ++ bytes_field number text → FieldAlike step none room number text old new
+copied_alike step none room number text old new fits is = record { put = text; copied = is; short = fits; same = refl }

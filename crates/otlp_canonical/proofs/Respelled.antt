@@ -22,10 +22,10 @@ use Rattle.otlp_read.proofs.Leaves.{utf8_yes}
 use Rattle.otlp_read.proofs.Opened.{opened, attribute_read}
 use Rattle.otlp_read.proofs.Taken.{Taken, Short, whole, some_string_taken}
 use Rattle.otlp_read.proofs.Walks.{before_rest, turn_end}
-use Rattle.otlp_canonical.specs.Anew.{Spelled, pair_of, IsPair, IsFirst}
+use Rattle.otlp_canonical.specs.Anew.{Spelled, pair_of, IsPair, IsFirst, IsOnly}
 use Rattle.otlp_canonical.specs.Inner.{DefaultLaws, ReadAlike, FieldAlike, PutFor}
 use Rattle.otlp_canonical.proofs.Dropped.{Going, going_put, going_same, front_walked}
-use Rattle.otlp_canonical.proofs.Inside.{holding, put_field}
+use Rattle.otlp_canonical.proofs.Inside.{holding, put_field, field_alike}
 
 -- ---- walks
 
@@ -286,3 +286,13 @@ pair_alike room text key value old keyed new some p fits is f =
       copied = f.copied ∙ ap (λ (t : List ℕ). t ++ field) is ∙ append_assoc old (some_bytes 1 key) field;
       same = opened key_value_step room no_key_value text some ∙ p.read inner ∙ sym read ∙ sym (opened key_value_step room no_key_value (some_bytes 1 key ++ field) some);
     }
+
+-- the same behind a tag and a length, where the value's only field stands behind them too
+pub plain_alike : (room size inner : ℕ) (field : Entry) (text key value old tagged sized keyed behind inside new : List ℕ) → 0 < room → IsPair (101 - room) text key value true → IsOnly (room - 1) value field
+    → tagged ≡ old ++ tag_text 9 types.Bytes → sized ≡ tagged ++ varint_text size → keyed ≡ sized ++ some_bytes 1 key → behind ≡ keyed ++ tag_text 2 types.Bytes → inside ≡ behind ++ varint_text inner → Spelled field inside new
+    → length new - length inside ≡ inner → length new - length sized ≡ size → length keyed < 2 ^ 64 → length new < 2 ^ 64 → FieldAlike key_value_step no_key_value room 9 text old new
+plain_alike room size inner field text key value old tagged sized keyed behind inside new some pair only tag length_ key_is value_tag value_length spelled value_at at keyed_fits fits =
+    let put : PutFor any_step_in IsFirst (room - 1 - 1) (101 - (room - 1)) 0 field inside new = spelled_put any_step_in IsFirst (room - 1 - 1) (101 - (room - 1)) 0 field inside new (any_spelled (room - 1 - 1) field only.known) spelled in
+    let read : ReadAlike any_step_in no_value (room - 1) value inside new = value_alike (room - 1) value [] inside new field only.some only.only refl put in
+    let held : FieldAlike any_step_in no_value (room - 1) 2 value keyed new = field_alike any_step_in no_value (room - 1) 2 inner value keyed behind inside new value_tag value_length value_at (omega (arith, value_at, fits)) read in
+    field_alike key_value_step no_key_value room 9 size text old tagged sized new tag length_ at (omega (arith, at, fits)) (pair_alike room text key value sized keyed new some pair keyed_fits key_is held)

@@ -24,7 +24,7 @@ none_by d place = record {
   parts = refl;
   starts = refl;
   ends = refl;
-  all = record { pieces = []; are = no_pieces; put = []; chosen = []; chosen_are = no_pieces; copied = refl; same = λ room s t rest made. made };
+  all = record { pieces = []; are = no_pieces; put = []; chosen = []; chosen_are = no_pieces; copied = refl; same = λ room s t rest deep made. made };
 }
 
 -- a field of this place, behind all that were met
@@ -79,9 +79,11 @@ kept d start end gone front e run pieces first starts ends sound are all stands 
       starts = starts;
       ends = ends;
       all = read_last d (place_of e) gone front pieces e first (both (run.start == run.end) (last_wins (place_of e)) later) refl sound are all;
-    }) λ many. rw many (grown d start end gone front e run first starts ends stands)
+    }) λ many.
+    by_test (not (run.start == run.end) && (place_of e == 15))
+    (λ again. rw (many, again) λ beside. absurd (cc)) λ other. rw (many, other) (grown d start end gone front e run first starts ends stands)
 
-elsewhere : (place : ℕ) (e : Entry) → place ≢ place_of e → is_in place (suc place) e ≡ false
+pub elsewhere : (place : ℕ) (e : Entry) → place ≢ place_of e → is_in place (suc place) e ≡ false
 elsewhere place e other = grind (arith, nat_tests, other)
 
 -- a field of another place

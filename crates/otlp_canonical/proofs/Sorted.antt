@@ -1,5 +1,5 @@
 -- A text's fields are put in order part by part.
-use Rattle.std.proofs.Common.{◌≡◌, ℕ, suc, ◌-◌, ◌<◌, ◌≤◌, Bool, true, false, not, ◌&&◌, nat_lt, arith, List, [], ◌∷◌, ◌++◌, Option, Some, Result, Ok, refl, sym, ap, subst, ◌∙◌, append_assoc, append-nil}
+use Rattle.std.proofs.Common.{◌≡◌, ℕ, suc, ◌+◌, ◌-◌, ◌<◌, ◌≤◌, Bool, true, false, not, ◌&&◌, nat_lt, arith, List, [], ◌∷◌, ◌++◌, Option, Some, Result, Ok, refl, sym, ap, subst, ◌∙◌, append_assoc, append-nil}
 use Rattle.std.proofs.lemmas.Bool.Decides.{nat_tests}
 use Rattle.std.proofs.lemmas.List.Elements.{filter-append}
 use Rattle.std.specs.List.{AllByRecursion}
@@ -72,11 +72,11 @@ is_in low high e = not (nat_lt (place_of e) low) && nat_lt (place_of e) high
 pub in_range : (low high : ℕ) (e : Entry) → low ≤ place_of e → place_of e < high → is_in low high e ≡ true
 in_range low high e le lt = grind (arith, nat_tests)
 
-chosen_more : (low high : ℕ) (ps : List Piece) (e : Entry) (front : List ℕ) → is_in low high e ≡ true → between low high (ps ++ piece e front ∷ []) ≡ between low high ps ++ piece e front ∷ []
+pub chosen_more : (low high : ℕ) (ps : List Piece) (e : Entry) (front : List ℕ) → is_in low high e ≡ true → between low high (ps ++ piece e front ∷ []) ≡ between low high ps ++ piece e front ∷ []
 chosen_more low high ps e front is =
     filter-append (λ p. is_in low high p.field) ps (piece e front ∷ []) ∙ ap (λ (l : List Piece). between low high ps ++ l) (rw is refl)
 
-chosen_same : (low high : ℕ) (ps : List Piece) (e : Entry) (front : List ℕ) → is_in low high e ≡ false → between low high (ps ++ piece e front ∷ []) ≡ between low high ps
+pub chosen_same : (low high : ℕ) (ps : List Piece) (e : Entry) (front : List ℕ) → is_in low high e ≡ false → between low high (ps ++ piece e front ∷ []) ≡ between low high ps
 chosen_same low high ps e front not_in =
     filter-append (λ p. is_in low high p.field) ps (piece e front ∷ []) ∙ ap (λ (l : List Piece). between low high ps ++ l) (rw not_in refl) ∙ append-nil (between low high ps)
 
@@ -107,7 +107,7 @@ of_places d place text old new w = record {
   chosen = between place (suc place) w.pieces;
   chosen_are = w.chosen;
   copied = w.copied;
-  same = λ room s t rest made. made;
+  same = λ room s t rest deep made. made;
 }
 
 -- one more of them
@@ -119,10 +119,10 @@ read_more d place gone old copy longer front e first is longer_is w = record {
   chosen = w.chosen ++ piece e front ∷ [];
   chosen_are = pieces_append w.chosen_are (one_piece d front e first);
   copied = longer_is ∙ ap (λ (t : List ℕ). t ++ front) w.copied ∙ append_assoc old w.put front;
-  same = λ room s t rest made.
+  same = λ room s t rest deep made.
       ap (λ (l : List Piece). fold_fields (span_step room) s (l ++ rest)) (chosen_more place (suc place) w.pieces e front is)
       ∙ ap (fold_fields (span_step room) s) (append_assoc (between place (suc place) w.pieces) (piece e front ∷ []) rest)
-      ∙ w.same room s t (piece e front ∷ rest) (ap (fold_fields (span_step room) s) (sym (append_assoc w.chosen (piece e front ∷ []) rest)) ∙ made);
+      ∙ w.same room s t (piece e front ∷ rest) deep (ap (fold_fields (span_step room) s) (sym (append_assoc w.chosen (piece e front ∷ []) rest)) ∙ made);
 }
 
 -- one of another place
@@ -134,7 +134,7 @@ read_same d place gone old copy front e first not_in w = record {
   chosen = w.chosen;
   chosen_are = w.chosen_are;
   copied = w.copied;
-  same = λ room s t rest made. ap (λ (l : List Piece). fold_fields (span_step room) s (l ++ rest)) (chosen_same place (suc place) w.pieces e front not_in) ∙ w.same room s t rest made;
+  same = λ room s t rest deep made. ap (λ (l : List Piece). fold_fields (span_step room) s (l ++ rest)) (chosen_same place (suc place) w.pieces e front not_in) ∙ w.same room s t rest deep made;
 }
 
 -- the last of them, where it wins
@@ -148,7 +148,7 @@ read_last d place gone front pieces e first one at sound are all =
       chosen = piece e front ∷ [];
       chosen_are = one_piece d front e first;
       copied = refl;
-      same = λ room s t rest made.
+      same = λ room s t rest deep made.
           ap (λ (l : List Piece). fold_fields (span_step room) s (l ++ rest)) (chosen_more place (suc place) pieces e front is)
           ∙ ap (fold_fields (span_step room) s) (append_assoc (between place (suc place) pieces) (piece e front ∷ []) rest) ∙ last_read room place pieces e front rest one at sound all s ∙ made;
     }
@@ -191,7 +191,7 @@ pub record Sorting (d low : ℕ) (text copy : List ℕ) : Type 0 where
   pub are : Pieces d text pieces
   pub sorted : List Piece
   pub copied : Pieces d copy sorted
-  pub same : (room : ℕ) (s t : SpanData) → fold_fields (span_step room) s (sorted ++ from low pieces) ≡ Ok t → fold_fields (span_step room) s pieces ≡ Ok t
+  pub same : (room : ℕ) (s t : SpanData) → d + room ≡ 100 → fold_fields (span_step room) s (sorted ++ from low pieces) ≡ Ok t → fold_fields (span_step room) s pieces ≡ Ok t
 
 pub none_sorted : (d : ℕ) (text : List ℕ) (pieces : List Piece) → Pieces d text pieces → Sorting d 0 text []
 none_sorted d text pieces are = record {
@@ -199,7 +199,7 @@ none_sorted d text pieces are = record {
   are = are;
   sorted = [];
   copied = no_pieces;
-  same = λ room s t made. ap (fold_fields (span_step room) s) (sym (from_first pieces)) ∙ made;
+  same = λ room s t deep made. ap (fold_fields (span_step room) s) (sym (from_first pieces)) ∙ made;
 }
 
 pub part_sorted : (d low : ℕ) (text copy new : List ℕ) → PlaceRead d low text copy new → Sorting d low text copy → Sorting d (suc low) text new
@@ -211,23 +211,23 @@ part_sorted d low text copy new w p =
       are = p.are;
       sorted = p.sorted ++ w.chosen;
       copied = subst (λ (t : List ℕ). Pieces d t (p.sorted ++ w.chosen)) (sym w.copied) (pieces_append p.copied w.chosen_are);
-      same = λ room s t made.
+      same = λ room s t deep made.
           let step = span_step room in
           let rest = from high p.pieces in
           let all : fold_fields step s (p.sorted ++ (w.chosen ++ rest)) ≡ Ok t = ap (fold_fields step s) (sym (append_assoc p.sorted w.chosen rest)) ∙ made in
           let two = bind_ok (fold_fields step s p.sorted) (λ b. fold_fields step b (w.chosen ++ rest)) t (sym (fold_append step s p.sorted (w.chosen ++ rest)) ∙ all) in
-          let these : fold_fields step two.0 (between low high w.pieces ++ rest) ≡ Ok t = w.same room two.0 t rest two.2 in
+          let these : fold_fields step two.0 (between low high w.pieces ++ rest) ≡ Ok t = w.same room two.0 t rest deep two.2 in
           let parts : fold_fields step s (p.sorted ++ (between low high p.pieces ++ rest)) ≡ Ok t =
           fold_append step s p.sorted (between low high p.pieces ++ rest) ∙ ap (λ (r : Result SpanData ReadFault). r >>= λ b. fold_fields step b (between low high p.pieces ++ rest)) two.1
           ∙ ap (λ (l : List Piece). fold_fields step two.0 (between low high l ++ rest)) (sym is) ∙ these in
-          p.same room s t (next_part room low high p.sorted p.pieces s t (omega arith) (ap (fold_fields step s) (append_assoc p.sorted (between low high p.pieces) rest) ∙ parts));
+          p.same room s t deep (next_part room low high p.sorted p.pieces s t (omega arith) (ap (fold_fields step s) (append_assoc p.sorted (between low high p.pieces) rest) ∙ parts));
     }
 
 -- the copy is read as the text
-pub sorted_read : (room low : ℕ) (text copy : List ℕ) → 0 < room → 17 < low → Sorting (101 - room) low text copy → (span : SpanData) → read_with span_step room no_span copy ≡ Ok span → read_with span_step room no_span text ≡ Ok span
-sorted_read room low text copy some lt p span made =
+pub sorted_read : (room low : ℕ) (text copy : List ℕ) → 0 < room → room ≤ 101 → 17 < low → Sorting (101 - room) low text copy → (span : SpanData) → read_with span_step room no_span copy ≡ Ok span → read_with span_step room no_span text ≡ Ok span
+sorted_read room low text copy some most lt p span made =
     let step = span_step (room - 1) in
     let all : p.sorted ++ from low p.pieces ≡ p.sorted = ap (λ (l : List Piece). p.sorted ++ l) (from_last low p.pieces lt) ∙ append-nil p.sorted in
     let copied : fold_fields step no_span (p.sorted ++ from low p.pieces) ≡ Ok span =
     ap (fold_fields step no_span) all ∙ sym (walk_pieces step no_span p.copied) ∙ sym (opened span_step room no_span copy some) ∙ made in
-    opened span_step room no_span text some ∙ walk_pieces step no_span p.are ∙ p.same (room - 1) no_span span copied
+    opened span_step room no_span text some ∙ walk_pieces step no_span p.are ∙ p.same (room - 1) no_span span (omega (arith, some, most)) copied

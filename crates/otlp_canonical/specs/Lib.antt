@@ -6,3 +6,4 @@ pub mod Inner
 pub mod Order
 pub mod Parts
 pub mod Sound
+pub mod Status

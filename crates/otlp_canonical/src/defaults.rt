@@ -12,8 +12,7 @@ ghost use Rattle.otlp_trace.specs.Defaults.{no_span};
 ghost use Rattle.otlp_read.specs.Value.{span_step};
 ghost use Rattle.otlp_read.specs.Walk.{read_with};
 
-use crate::attribute::{field_size, put_attribute};
-use crate::field::short_field;
+use crate::attribute::{field_size, is_respelled, put_span_attribute, short_attribute};
 use crate::inner::{put_message, spare_size};
 use crate::rewritten::rewritten;
 use crate::text::is_span_text;
@@ -39,13 +38,15 @@ pub fn is_default(field: Field<'_>) -> bool
 }
 
 /// How many bytes of the message in a span's field, which takes so many, need not be there: defaults that are written
-/// out, and lengths longer than they have to be. None where the field stays as it is.
+/// out, and lengths longer than they have to be; 0 where it is an attribute that is respelled. None where the field
+/// stays as it is.
 #[inline(always)]
-fn spare_inside(field: Field<'_>, size: usize, room: u32) -> Option<usize> {
+fn spare_inside(field: Field<'_>, size: usize, room: u32, span: usize) -> Option<usize> {
     let Value::Bytes(text) = field.value else {
         return None;
     };
     let spare = match field.number {
+        9 if is_respelled(text, span) => return Some(0),
         9 => 0,
         11 => spare_size::<Event>(text, room),
         13 => spare_size::<Link>(text, room),
@@ -77,7 +78,7 @@ fn put_inside(
         return Ok(false);
     };
     let whole = match field.number {
-        9 => put_attribute(copy, 9, text, room)?,
+        9 => put_span_attribute(copy, text, room)?,
         11 => put_message::<Event>(copy, 11, text, spare, room)?,
         13 => put_message::<Link>(copy, 13, text, spare, room)?,
         15 if most < 15 => put_message::<Status>(copy, 15, text, spare, room)?,
@@ -136,10 +137,10 @@ struct Uncopied<'a> {
     flags: &'a [u8],
 }
 
-/// Appends the text without the defaults that stand in it, and with short lengths, up to the last of these, and tells
-/// what is left to copy. None where a default stands behind a field of its own number or a greater one: it may take
-/// back what came before. None as well where the copy can't be canonical, because the text isn't fields, or because its
-/// flags stand before others and aren't moved, or are and stand twice.
+/// Appends the text without the defaults that stand in it, with short lengths and with attributes respelled that can't
+/// be canonical, up to the last of these, and tells what is left to copy. None where a default stands behind a field of
+/// its own number or a greater one: it may take back what came before. None as well where the copy can't be canonical,
+/// because the text isn't fields, or because its flags stand before others and aren't moved, or are and stand twice.
 #[inline(always)]
 fn put_fields<'a>(
     copy: &mut Vec<u8>,
@@ -162,7 +163,7 @@ fn put_fields<'a>(
     let mut most = 0u32;
     'fields: while !left.is_empty() {
         // Most attributes have lengths of one byte, and stay.
-        if let Some((_attribute, rest)) = short_field(left, 9) {
+        if let Some((_attribute, rest)) = short_attribute(left, text.len()) {
             most = most.max(9);
             left = rest;
             continue;
@@ -170,7 +171,7 @@ fn put_fields<'a>(
         let Ok(Some((field, rest))) = next_field(left, depth) else {
             return Ok(None);
         };
-        let spare = spare_inside(field, left.len() - rest.len(), room - 1);
+        let spare = spare_inside(field, left.len() - rest.len(), room - 1, text.len());
         let moves = is_moved(field, moves_flags);
         if spare.is_none() && !is_default(field) && !moves {
             if is_late(field, most) {
@@ -250,10 +251,11 @@ pub fn bare_copy(
 /// levels, as in `is_span_text`. Else none, and nothing is said of the text.
 ///
 /// A default is looked for in the span and in its status, events and links, and in no attribute. What holds of defaults
-/// holds of lengths that are longer than they have to be, of the messages and attributes in the span. An event in which
-/// there is one of these may begin with its name, and its time behind that. Where one was found, what else isn't
-/// canonical in a message inside the span is put anew. The text may have some bytes of room more
-/// than it takes: at most 38 for each default, and 18 for each length.
+/// holds of lengths that are longer than they have to be, of the messages and attributes in the span, and in a span of
+/// up to 16 KiB of attributes that show by what they begin with that they aren't canonical. An event in which there is
+/// one of these may begin with its name, and its time behind that. Where one was found, what else isn't canonical in a
+/// message inside the span is put anew. The text may have some bytes of room more than it takes: at most 38 for each
+/// default, 18 for each length, and those of a key that stands in an attribute before another.
 pub fn without_defaults(
     alloc: Global,
     text: &[u8],

@@ -23,6 +23,7 @@ mod order;
 mod request;
 mod rewritten;
 mod span;
+mod status;
 mod text;
 mod unknown;
 mod value;

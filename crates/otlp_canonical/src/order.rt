@@ -14,12 +14,13 @@ use crate::defaults::without_defaults;
 use crate::field::is_utf8;
 use crate::flags::{flags_are_early, with_flags_last};
 use crate::rewritten::rewritten;
+use crate::status::put_status;
 use crate::text::is_span_text;
 use pb_wire::{Field, Value, next_field};
 use std::alloc::{AllocError, Global};
 
 /// The place of a span's status.
-const STATUS: u32 = 15;
+pub const STATUS: u32 = 15;
 
 /// The place of the fields that a span doesn't know, behind all others.
 const NOT_KNOWN: u32 = 17;
@@ -37,7 +38,7 @@ const DROPPED_EVENTS_COUNT: usize = 12;
 const DROPPED_LINKS_COUNT: usize = 14;
 
 /// Where a span's field stands in canonical order: at its number, if the span knows it.
-fn place(field: Field<'_>) -> u32
+pub fn place(field: Field<'_>) -> u32
     ensures is { result ≡ place_of (entry field.entry) }
     ensures within { result < 18 }
 {
@@ -60,7 +61,7 @@ struct Run {
     /// Where the last of those ends that stand side by side.
     end: usize,
 
-    /// Others stand between them.
+    /// Others stand between them, or they are statuses, which are merged.
     apart: bool,
 }
 
@@ -82,26 +83,27 @@ impl Run {
         }
     }
 
-    /// With one more field of this place, behind all that were met, or in their place where the last one wins. None
-    /// where it is merged with one that was met: a status.
+    /// With one more field of this place, behind all that were met, or in their place where the last one wins.
     #[inline(always)]
-    fn with(self, place: u32, start: usize, end: usize) -> Option<Run>
-        ensures { IfSome result (λ run. run ≡ with_field place self start end) }
+    fn with(self, place: u32, start: usize, end: usize) -> Run
+        ensures { result ≡ with_field place self start end }
     {
         if self.start == self.end {
-            return Some(self.and(start, end));
-        }
-        if place == STATUS {
-            return None;
+            return self.and(start, end);
         }
         if last_wins(place) {
-            Some(Run {
+            Run {
                 start,
                 end,
                 apart: false,
-            })
+            }
+        } else if place == STATUS {
+            Run {
+                apart: true,
+                ..self
+            }
         } else {
-            Some(self.and(start, end))
+            self.and(start, end)
         }
     }
 }
@@ -116,7 +118,7 @@ fn last_wins(place: u32) -> bool
 
 /// Whether in canonical order a field at this place may stand behind those of places up to the highest.
 fn follows(place: u32, highest: u32) -> bool {
-    highest < place || highest == place && !last_wins(place)
+    highest < place || highest == place && matches!(place, 9 | 11 | 13 | NOT_KNOWN)
 }
 
 /// Whether a span's field is UTF-8, if it has to be.
@@ -145,8 +147,7 @@ struct Placed {
     in_order: bool,
 }
 
-/// Where the fields of each place stand. None where the text isn't fields, where a string isn't UTF-8, or where a
-/// status stands twice.
+/// Where the fields of each place stand. None where the text isn't fields, or where a string isn't UTF-8.
 fn runs(text: &[u8], depth: u32) -> Option<Placed>
     ensures { IfSome result (λ runs. AllStand depth text.now runs.places) }
 {
@@ -168,9 +169,7 @@ fn runs(text: &[u8], depth: u32) -> Option<Placed>
         }
         let start = text.len() - left.len();
         let end = text.len() - rest.len();
-        let Some(run) = runs[place as usize].with(place, start, end) else {
-            return None;
-        };
+        let run = runs[place as usize].with(place, start, end);
         runs[place as usize] = run;
         in_order = in_order && follows(place, highest);
         highest = highest.max(place);
@@ -201,7 +200,8 @@ fn put_apart(copy: &mut Vec<u8>, text: &[u8], depth: u32, wanted: u32) -> Result
 }
 
 /// Appends the fields of the text that stand at this place, of which their run tells how they stand: at once where no
-/// others stand between them. Else it tells whether the whole text is fields.
+/// others stand between them. Else it tells whether the whole text is fields. Of statuses it puts one that holds the
+/// fields of all of them.
 fn put_run(
     copy: &mut Vec<u8>,
     text: &[u8],
@@ -209,11 +209,16 @@ fn put_run(
     place: u32,
     run: Run,
 ) -> Result<bool, AllocError>
-    requires { Stands depth place text.now run }
+    requires stands { Stands depth place text.now run }
+    requires within { depth < 102 }
     ensures { IfOk result (λ whole. whole ≡ true
         → PlaceRead depth place text.now copy.old.items copy.new.items) }
 {
     if run.apart {
+        if place == STATUS {
+            let merged = put_status(copy, text, depth)?;
+            return Ok(merged);
+        }
         let whole = put_apart(copy, text, depth, place)?;
         return Ok(whole);
     }
@@ -247,13 +252,14 @@ struct OrderedText {
 }
 
 /// The text with its fields in canonical order, and of those of which the last one wins no others; unless it is so
-/// already. None where it isn't fields, where a string isn't UTF-8, or where a status stands twice.
+/// already; of several statuses, one that holds the fields of all. None where it isn't fields, or where a string isn't
+/// UTF-8.
 fn sorted(alloc: Global, text: &[u8], room: u32) -> Result<Option<OrderedText>, AllocError>
     ensures { IfOk result (λ found. IfSome found (λ sorted. sorted.in_order ≡ false
         → (span : SpanData) → read_with span_step room no_span sorted.copy.items ≡ Ok span
         → read_with span_step room no_span text.now ≡ Ok span)) }
 {
-    if room == 0 {
+    if room == 0 || room > 101 {
         return Ok(None);
     }
     let depth = 101u32.saturating_sub(room);

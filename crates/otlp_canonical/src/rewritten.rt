@@ -6,31 +6,32 @@ ghost use Rattle.pb_wire.specs.Grammar.{entry, IsField};
 ghost use Rattle.otlp_canonical.specs.Anew.{WrittenAnew};
 ghost use Rattle.otlp_canonical.specs.Canonical.{CanonicalCopy};
 ghost use Rattle.otlp_canonical.specs.Defaults.{DefaultsAbove};
-ghost use Rattle.otlp_canonical.specs.Inner.{FieldAlike, PutFor};
+ghost use Rattle.otlp_canonical.specs.Inner.{PutFor};
 ghost use Rattle.otlp_trace.specs.Defaults.{no_span};
-ghost use Rattle.otlp_read.specs.AnyValue.{no_key_value, key_value_step};
 ghost use Rattle.otlp_read.specs.Value.{span_step};
 ghost use Rattle.otlp_read.specs.Walk.{read_with};
 
-use crate::anew::{put_pair, put_short};
-use crate::attribute::field_size;
+use crate::anew::{put_respelled, put_short};
+use crate::attribute::{begins_otherwise, field_size, is_plain};
 use crate::defaults::is_default;
 use crate::message::Canonical;
 use crate::text::is_span_text;
 use crate::unknown::Keeping;
 use otlp_read::{ReadFault, read_span, span_is_typed};
-use otlp_trace::{Event, KeyValue, Link, Span, Status, wrap_in_field, write_span};
+use otlp_trace::{Event, KeyValue, Link, Span, Status, write_span};
 use pb_wire::{Field, Value, next_field};
 use std::alloc::{AllocError, Global};
 
 /// Whether a span's field, which takes so many bytes, stays as it is: if the span doesn't know it, or if it holds a
-/// message's canonical text behind a length that is as short as it can be.
+/// message's canonical text behind a length that is as short as it can be. Whether a plain attribute is UTF-8 isn't
+/// looked at here.
 fn stays(field: Field<'_>, size: usize, room: u32) -> bool {
     let Value::Bytes(text) = field.value else {
         return !Span::knows(field);
     };
     let canonical = match field.number {
-        9 => KeyValue::check(text, room).is_some(),
+        9 if is_plain(text) => true,
+        9 => !begins_otherwise(text) && KeyValue::check(text, room).is_some(),
         11 => Event::check(text, room).is_some(),
         13 => Link::check(text, room).is_some(),
         15 => Status::check(text, room).is_some(),
@@ -55,19 +56,6 @@ fn put_read(alloc: Global, copy: &mut Vec<u8>, text: &[u8], room: u32) -> Result
     };
     span_is_typed(&span);
     write_span(alloc, copy, &span)?;
-    Ok(true)
-}
-
-/// Appends an attribute of a span anew.
-fn put_attribute(copy: &mut Vec<u8>, text: &[u8], room: u32) -> Result<bool, AllocError>
-    ensures { IfOk result (λ whole. whole ≡ true
-        → FieldAlike key_value_step no_key_value room 9 text.now copy.old.items copy.new.items) }
-{
-    let start = copy.len();
-    if !put_pair(copy, text, room)? {
-        return Ok(false);
-    }
-    wrap_in_field(copy, start, 9)?;
     Ok(true)
 }
 
@@ -99,7 +87,7 @@ fn put_anew(
         return Ok(whole);
     };
     let whole = match field.number {
-        9 => put_attribute(copy, text, room - 1)?,
+        9 => put_respelled(copy, text, room - 1)?,
         11 => put_read(alloc, copy, spelled, room)?,
         13 => put_read(alloc, copy, spelled, room)?,
         15 if most < 15 => put_read(alloc, copy, spelled, room)?,

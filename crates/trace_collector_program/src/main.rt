@@ -171,7 +171,7 @@ where
         Some(Task::Serve { settings, options }) => serve_file(rt, settings, &options, reason)?,
         Some(Task::Check { settings }) => return check_file(rt, settings, reason),
         Some(Task::Help) => rt.println(HELP)?,
-        Some(Task::Version) => rt.println(VERSION)?,
+        Some(Task::Version) => println!(rt; "trace_collector {VERSION}")?,
         None => return Err(ProgramFault::Usage),
     }
     Ok(End::Good)

@@ -10,7 +10,7 @@ use crate::admin::{AdminDoor, admin_door};
 use crate::descriptors::ThreadCounts;
 use crate::reason::Reason;
 use crate::start::{has_descriptors, listen_at, settings_of_file};
-use crate::task::{RELEASE, ServeOptions};
+use crate::task::{ServeOptions, VERSION};
 use crate::watched::Watched;
 use crate::{ProgramFault, READ_SIZE};
 use decision_cache::HashKeys;
@@ -275,7 +275,7 @@ fn port_at<'x>(door: &'x AdminDoor, desk: &'x AdminDesk) -> AdminPort<'x> {
         desk,
         token,
         status,
-        version: RELEASE,
+        version: VERSION,
     }
 }
 

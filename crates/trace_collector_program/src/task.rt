@@ -79,11 +79,8 @@ lines that begin with `#` are skipped.
 Exit statuses: 0 done; 1 a fault of the settings, the script, the input or the output; 2 wrong usage;
 3 no memory.";
 
-/// What `--version` prints.
-pub const VERSION: &str = "trace_collector 0.1.0";
-
-/// What of it metrics tell.
-pub const RELEASE: &str = "0.1.0";
+/// The version that `--version` prints and metrics tell.
+pub const VERSION: &str = "0.1.0";
 
 /// So many connections can be asked for.
 const MOST_CONNECTIONS: u32 = 65_536;

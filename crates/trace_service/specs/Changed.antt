@@ -59,28 +59,32 @@ pub record TellsCome (document name : List ℕ) (told : Response) : Type 0 where
   pub warned : HasWarnings report is_good warnings
   pub reply : told ≡ came_reply name warnings
 
--- nobody could come with a document: it gives no settings, and its report is told, or it hasn't one tenant (422, RFC
--- 9110, section 15.5.21)
-pub data TellsFaulty (document : List ℕ) (told : Response) : Type 0 where
+-- nobody could come with a document: it gives no settings, and its report is told; or by itself it does, and this is
+-- told (422, RFC 9110, section 15.5.21)
+pub data TellsFaulty (document otherwise : List ℕ) (told : Response) : Type 0 where
   no_settings : (report doubts : List ℕ) → IsFileReport document false report doubts
-      → told ≡ notice_of 422 (codes "error") (trim_end report) → TellsFaulty document told
-  not_one : (report doubts : List ℕ) → IsFileReport document true report doubts
-      → told ≡ notice_of 422 (codes "error") (codes "the document doesn't have exactly one tenant")
-      → TellsFaulty document told
+      → told ≡ notice_of 422 (codes "error") (trim_end report) → TellsFaulty document otherwise told
+  by_itself : (report doubts : List ℕ) → IsFileReport document true report doubts
+      → told ≡ notice_of 422 (codes "error") otherwise → TellsFaulty document otherwise told
 
--- what is told of a tenant that was refused for this (docs/FAULTS.md), unless its document is at fault: its name is
--- taken (409, RFC 9110, section 15.5.10), or there would be too many (422)
+-- what is told of a tenant that was refused for this (docs/FAULTS.md), unless its document is to be looked at: its name
+-- is taken (409, RFC 9110, section 15.5.10)
 abbrev pub refused_reply : List ℕ → Option Response
 refused_reply why =
     if bytes_eq why (codes "14\n") then Some (notice_of 409 (codes "error") (codes "a tenant of that name is present"))
-    else if bytes_eq why (codes "15\n") then Some (notice_of 422 (codes "error")
-    (codes "there would be more tenants, or more spans at a time, than settings allow"))
     else if bytes_eq why (codes "memory\n") then Some no_memory else None
 
+-- what is told of one that was refused for this though its document is good by itself
+abbrev pub refused_otherwise : List ℕ → List ℕ
+refused_otherwise why =
+    if bytes_eq why (codes "15\n")
+    then codes "there would be more tenants, or more spans at a time, than settings allow"
+    else codes "the document doesn't have exactly one tenant"
+
 -- the reply is that one, or else what is told of a faulty document
-abbrev pub TellsRefused : List ℕ → Option Response → Response → Type 0
-TellsRefused document (Some due) told = told ≡ due
-TellsRefused document None told = TellsFaulty document told
+abbrev pub TellsRefused : List ℕ → List ℕ → Option Response → Response → Type 0
+TellsRefused document why (Some due) told = told ≡ due
+TellsRefused document why None told = TellsFaulty document (refused_otherwise why) told
 
 -- a name as it stands in a line
 abbrev pub HasNoSpace : List ℕ → Type 0
@@ -98,7 +102,7 @@ SaysRefused line why = line ≡ codes "refused add " ++ why
 -- what whoever posted a document is told, where this line answered
 pub data TellsAdded (document line : List ℕ) (told : Response) : Type 0 where
   came : (name : List ℕ) → SaysCame line name → TellsCome document name told → TellsAdded document line told
-  refused : (why : List ℕ) → SaysRefused line why → TellsRefused document (refused_reply why) told
+  refused : (why : List ℕ) → SaysRefused line why → TellsRefused document why (refused_reply why) told
       → TellsAdded document line told
   -- no such line: memory was refused for its bytes
   no_word : (IsUtf8 line → ((name : List ℕ) → SaysCame line name → ⊥) × ((why : List ℕ) → SaysRefused line why → ⊥))

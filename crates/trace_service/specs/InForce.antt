@@ -36,6 +36,11 @@ abbrev pub HasBackEnd : SettingsData → ℕ → Option (List ℕ) → Type 0
 HasBackEnd first tenant address =
     (now : SettingsData) × CameOf first now × (address ≡ option_map (λ s. s.endpoint) (section_at now tenant))
 
+-- under settings that came of the first ones the tenant of this number has this name
+abbrev pub HasName : SettingsData → ℕ → List ℕ → Type 0
+HasName first tenant name =
+    (now : SettingsData) × CameOf first now × (option_map (λ t. t.name) (tenant_at now tenant) ≡ Some name)
+
 -- the tenant of this number, with its section; or that there is no such tenant
 abbrev pub IsTenant : Option SectionData → ℕ → Destination → Type 0
 IsTenant (Some section) number (To tenant own) = (tenant ≡ number) × (section_view own ≡ section)

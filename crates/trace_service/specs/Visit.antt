@@ -5,3 +5,7 @@ use Rattle.std.specs.Prelude.{ℕ, nat_le, Bool, true, Option, Some, None}
 abbrev pub is_within : ℕ → Option ℕ → Bool
 is_within come None = true
 is_within come (Some most) = nat_le come most
+
+-- so many bytes are read off a connection behind a reply that closes it, which is more than the longest body has
+abbrev pub most_read_off : ℕ
+most_read_off = 33554432

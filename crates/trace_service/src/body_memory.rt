@@ -5,12 +5,9 @@ ghost use Rattle.http1.specs.Fields.{known_fields};
 ghost use Rattle.http_edge.specs.Seen.{header_of, seen};
 ghost use Rattle.trace_service.specs.BodyMemory.{claimed_with, counted_for};
 
-use http_edge::{Header, HttpMessage};
+use http_edge::{Header, HttpMessage, MAX_BODY};
 use http1::fields::{ContentLength, KnownFields};
 use std::sync::atomic::{AtomicU64, Ordering};
-
-/// So many bytes the longest body has that is taken.
-const LONGEST: u64 = 20_971_520;
 
 /// Memory for bodies, of each from when its head has come until it was posted.
 #[derive(Drop)]
@@ -107,7 +104,7 @@ fn counted_for(head: &HttpMessage) -> u64
 {
     match known_fields(&head.headers).content_length {
         ContentLength::Value(length) => length,
-        ContentLength::Absent | ContentLength::Invalid => LONGEST,
+        ContentLength::Absent | ContentLength::Invalid => MAX_BODY,
     }
 }
 

@@ -3,7 +3,7 @@
 ghost use Rattle.std.specs.Prelude.{◌≡◌, ◌≢◌, ◌↔◌, ◌++◌, ℕ, List, [], None, IsTrue, IfOk, IfSome, codes, option_copied, option_map, string_bytes};
 ghost use Rattle.drop_ledger.specs.Ledger.{LedgerData, LedgerInvariant, ledger_of};
 ghost use Rattle.http_edge.specs.Seen.{response_of};
-ghost use Rattle.trace_service.specs.Changed.{HasWarnings, SaysCame, TellsAdded, TellsAdding, TellsCome, TellsFaulty, TellsRefused, TellsRetired, TellsRetiring, busy_reply, going_text, last_line, refused_reply, untold_reply, went_reply};
+ghost use Rattle.trace_service.specs.Changed.{HasWarnings, SaysCame, TellsAdded, TellsAdding, TellsCome, TellsFaulty, TellsRefused, TellsRetired, TellsRetiring, busy_reply, going_text, last_line, refused_otherwise, refused_reply, untold_reply, went_reply};
 ghost use Rattle.trace_service.specs.Notice.{notice_of};
 
 use crate::desk::Asked;
@@ -77,37 +77,36 @@ fn warnings(report: &Report) -> &str
 
 /// What is told of a tenant that was refused for this.
 fn not_added(alloc: Global, why: &str, document: &[u8]) -> Result<Reply, AllocError>
-    ensures { IfOk result (λ reply. TellsRefused document.now (refused_reply why.now)
+    ensures { IfOk result (λ reply. TellsRefused document.now why.now (refused_reply why.now)
         (response_of reply)) }
 {
     if why == "14\n" {
         notice(alloc, 409, "error", "a tenant of that name is present")
-    } else if why == "15\n" {
-        notice(
-            alloc,
-            422,
-            "error",
-            "there would be more tenants, or more spans at a time, than settings allow",
-        )
     } else if why == "memory\n" {
         Ok(without_memory(alloc))
     } else {
-        faulty(alloc, document)
+        faulty(alloc, document, refused_otherwise(why))
     }
 }
 
-/// What is wrong with a document, in words.
-fn faulty(alloc: Global, document: &[u8]) -> Result<Reply, AllocError>
-    ensures { IfOk result (λ reply. TellsFaulty document.now (response_of reply)) }
+/// What is told of one that was refused for this though its document is good by itself.
+fn refused_otherwise(why: &str) -> &'static str
+    ensures { result.now ≡ refused_otherwise why.now }
+{
+    if why == "15\n" {
+        "there would be more tenants, or more spans at a time, than settings allow"
+    } else {
+        "the document doesn't have exactly one tenant"
+    }
+}
+
+/// What is wrong with a document, in words: in these where it is good by itself.
+fn faulty(alloc: Global, document: &[u8], otherwise: &str) -> Result<Reply, AllocError>
+    ensures { IfOk result (λ reply. TellsFaulty document.now otherwise.now (response_of reply)) }
 {
     let report = check(alloc, document)?;
     if report.is_good {
-        notice(
-            alloc,
-            422,
-            "error",
-            "the document doesn't have exactly one tenant",
-        )
+        notice(alloc, 422, "error", otherwise)
     } else {
         notice(alloc, 422, "error", report.text.as_str().trim_end())
     }

@@ -1,6 +1,6 @@
 //! Who reads the input, and ends the service.
 
-ghost use Rattle.std.specs.Prelude.{◌≡◌, length, map, IfOk, OnOk, IfNone};
+ghost use Rattle.std.specs.Prelude.{◌≡◌, length, map, IfOk, OnOk, IfNone, true};
 ghost use Rattle.std.specs.Bool.{OnTrue};
 ghost use Rattle.trace_service.specs.Control.{Answers, Directs, ReadsCommands, Reports, ReportsNamed};
 ghost use Rattle.trace_service.specs.Commands.{AreDrained, AreEmptyOn, AreReported, IsMade, AsksNothing, step_of};
@@ -301,7 +301,8 @@ where
 
 /// Whether a line asks for nothing: it lets no tenant come, and names none that is present.
 fn asks_nothing(roster: &Roster, line: &[u8]) -> bool
-    ensures { OnTrue result (AsksNothing (present_in roster.now) line.now) }
+    ensures nothing { OnTrue result (AsksNothing (present_in roster.now) line.now) }
+    ensures whole { AsksNothing (present_in roster.now) line.now → result ≡ true }
 {
     if let Some(name) = line.strip_prefix(b"report ".as_slice()) {
         return roster.find(name).is_none();

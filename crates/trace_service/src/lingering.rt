@@ -2,6 +2,7 @@
 
 ghost use Rattle.std.specs.Prelude.{◌≤◌, ℕ, List, [], length};
 ghost use Rattle.http_line.specs.Line.{Moves};
+ghost use Rattle.trace_service.specs.Visit.{most_read_off};
 
 use export_edge::Beat;
 use http_line::{Line, StreamLine};
@@ -32,7 +33,7 @@ pub(crate) fn linger<B: Beat>(stream: &TcpStream, beat: &mut B) {
 /// Reads what comes and lets it go, until the peer has closed its side too, or one of the bounds is met.
 fn read_off<L: Line, B: Beat>(line: &mut L, beat: &mut B)
     ensures { (read : List ℕ) × Moves L.gives L.takes line.old line.new read []
-        × (length read ≤ 33_554_432) }
+        × (length read ≤ most_read_off) }
 {
     let until = beat.now().saturating_add(LONGEST);
     let mut room = [0; ROOM];

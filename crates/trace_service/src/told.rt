@@ -1,5 +1,8 @@
 //! Back ends that refuse posts or don't answer, as an operator is told of them.
 
+ghost use Rattle.std.specs.Prelude.{IfSome, string_bytes};
+ghost use Rattle.trace_service.specs.InForce.{HasName};
+
 use crate::in_force::InForce;
 use crate::naming::Naming;
 use export_edge::BackEnd;
@@ -10,7 +13,8 @@ use std::io;
 use std::sync::{Mutex, Wait};
 
 /// Posts to a back end and, where it is verbose, tells standard error of each answer that isn't one of success: whose
-/// back end gave it, and its status. What can't be written is left out, and nothing else changes.
+/// back end gave it, by its name or else by its number, and its status. What can't be written is left out, and nothing
+/// else changes.
 #[derive(Drop)]
 pub(crate) struct ToldBackEnd<'h, B, J: Naming, R> {
     pub rt: &'h R,
@@ -40,24 +44,27 @@ impl<'h, B, J: Naming, R: Eprint + Wait> ToldBackEnd<'h, B, J, R> {
                 status: 200..300,
                 ..
             } => Ok(()),
-            Answer::Http { status, .. } => {
-                let name = self.name(tenant);
-                let name = name.as_str();
-                eprintln!(self.rt; "back end of {name}: {status}")
-            }
-            Answer::Failed => {
-                let name = self.name(tenant);
-                let name = name.as_str();
-                eprintln!(self.rt; "back end of {name}: no answer")
-            }
+            Answer::Http { status, .. } => match self.name(tenant) {
+                Some(name) => {
+                    let name = name.as_str();
+                    eprintln!(self.rt; "back end of {name}: {status}")
+                }
+                None => eprintln!(self.rt; "back end of tenant {tenant}: {status}"),
+            },
+            Answer::Failed => match self.name(tenant) {
+                Some(name) => {
+                    let name = name.as_str();
+                    eprintln!(self.rt; "back end of {name}: no answer")
+                }
+                None => eprintln!(self.rt; "back end of tenant {tenant}: no answer"),
+            },
         }
     }
 
-    /// The tenant's name, or nothing where it has gone or memory is refused. Meanwhile the settings are locked.
-    fn name(&self, tenant: u32) -> String {
-        match self.settings.lock(self.rt).name(self.alloc, tenant) {
-            Some(name) => name,
-            None => String::new(self.alloc),
-        }
+    /// The tenant's name. None where it has gone, or memory is refused. Meanwhile the settings are locked.
+    fn name(&self, tenant: u32) -> Option<String>
+        ensures { IfSome result (λ name. HasName J.first tenant (string_bytes name)) }
+    {
+        self.settings.lock(self.rt).name(self.alloc, tenant)
     }
 }

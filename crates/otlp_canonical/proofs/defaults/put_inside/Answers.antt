@@ -10,8 +10,8 @@ use Rattle.otlp_canonical.proofs.defaults.put_inside.Goals as goal
 pub returns-in_ok-whole-in-9 : goal.returns-in_ok-whole-in-9
 returns-in_ok-whole-in-9 c d whole =
     let same : entry c.args.field ≡ holding 9 c.in-Bytes.text.now = search rules in
-    subst (λ (f : Entry). PutFor span_step DefaultsAbove c.args.room d c.args.most f c.args.copy.now.items c.put_attribute.new.copy.items) (sym same)
-    (attribute_put span_step DefaultsAbove (λ (n : ℕ). n == 9) span_attributes c.args.room d c.args.most 9 c.in-Bytes.text.now c.args.copy.now.items c.put_attribute.new.copy.items refl (c.in_ok-whole-in-9.ensures whole))
+    subst (λ (f : Entry). PutFor span_step DefaultsAbove c.args.room d c.args.most f c.args.copy.now.items c.put_span_attribute.new.copy.items) (sym same)
+    (attribute_put span_step DefaultsAbove (λ (n : ℕ). n == 9) span_attributes c.args.room d c.args.most 9 c.in-Bytes.text.now c.args.copy.now.items c.put_span_attribute.new.copy.items refl (c.in_ok-whole-in-9.ensures whole))
 
 pub returns-in_ok-whole-in-11 : goal.returns-in_ok-whole-in-11
 returns-in_ok-whole-in-11 c d whole =

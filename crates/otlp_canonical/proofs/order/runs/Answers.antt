@@ -42,7 +42,7 @@ fields-preserved c =
     record {
       size = search rules;
       within = omega arith;
-      so_far = rw c.in-Some.ensures (subst (λ (n : ℕ). Found d text rest (set runs n (with_field n (get_or runs n none) start end))) (sym at) more);
+      so_far = rw c.with-run.ensures (subst (λ (n : ℕ). Found d text rest (set runs n (with_field n (get_or runs n none) start end))) (sym at) more);
     }
 
 pub returns : goal.returns

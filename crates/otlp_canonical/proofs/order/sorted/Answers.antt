@@ -24,4 +24,4 @@ places-preserved c =
     subst (λ (n : ℕ). Sorting (101 - c.args.room) n c.args.text.now new) next (part_sorted (101 - c.args.room) low c.args.text.now c.places.copy.items new there c.places.invariant)
 
 pub returns : goal.returns
-returns c off span made = sorted_read c.args.room c.places.place c.args.text.now c.places.copy.items (omega arith) (omega arith) c.places.invariant span made
+returns c off span made = sorted_read c.args.room c.places.place c.args.text.now c.places.copy.items (omega arith) (omega arith) (omega arith) c.places.invariant span made

@@ -16,7 +16,7 @@ returns-in-Some-strip_prefix c =
     let line = c.args.line.now in
     let why = c.in-Some-strip_prefix.why.now in
     let text : line ≡ codes "refused add " ++ why = search rules in
-    if_ok c.not_added.result (TellsRefused document (refused_reply why)) (TellsAdded document line)
+    if_ok c.not_added.result (TellsRefused document why (refused_reply why)) (TellsAdded document line)
     (λ told is. refused why text is) c.not_added.ensures
 
 pub returns-in-None : goal.returns-in-None

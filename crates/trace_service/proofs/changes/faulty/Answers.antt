@@ -1,7 +1,7 @@
 use Rattle.std.proofs.Common.{◌∙◌, ap, codes, string_bytes, subst}
 use Rattle.std.specs.Str.{trim_end}
 use Rattle.settings_check.specs.Report.{IsFileReport}
-use Rattle.trace_service.specs.Changed.{TellsFaulty, no_settings, not_one}
+use Rattle.trace_service.specs.Changed.{TellsFaulty, by_itself, no_settings}
 use Rattle.trace_service.specs.Notice.{notice_of}
 use Rattle.trace_service.proofs.Replies.{if_told}
 use Rattle.trace_service.proofs.changes.faulty.Goals as goal
@@ -10,15 +10,15 @@ pub returns-then-report : goal.returns-then-report
 returns-then-report c =
     let document = c.args.document.now in
     let report = c.in_ok-report.report in
-    if_told c.notice.result _ (TellsFaulty document) c.notice.ensures
-    (λ told is. not_one (string_bytes report.text) (string_bytes report.doubts)
+    if_told c.notice.result _ (TellsFaulty document c.args.otherwise.now) c.notice.ensures
+    (λ told is. by_itself (string_bytes report.text) (string_bytes report.doubts)
     (subst (λ good. IsFileReport document good (string_bytes report.text) (string_bytes report.doubts)) c.if-report.true c.in_ok-report.ensures) is)
 
 pub returns : goal.returns
 returns c =
     let document = c.args.document.now in
     let report = c.in_ok-report.report in
-    if_told c.notice-else-report.result _ (TellsFaulty document) c.notice-else-report.ensures
+    if_told c.notice-else-report.result _ (TellsFaulty document c.args.otherwise.now) c.notice-else-report.ensures
     (λ told is. no_settings (string_bytes report.text) (string_bytes report.doubts)
     (subst (λ good. IsFileReport document good (string_bytes report.text) (string_bytes report.doubts)) c.if-report.false c.in_ok-report.ensures)
     (is ∙ ap (notice_of 422 (codes "error")) (c.trim_end.ensures.trim ∙ ap trim_end c.as_str.ensures.value)))

@@ -2,7 +2,7 @@ use Rattle.std.proofs.Common.{rules, arith, ◌<◌, ◌^◌, length}
 use Rattle.otlp_read.specs.AnyValue.{no_key_value, key_value_step}
 use Rattle.otlp_canonical.specs.Inner.{ReadAlike}
 use Rattle.otlp_canonical.proofs.Respelled.{wrapped}
-use Rattle.otlp_canonical.proofs.rewritten.put_attribute.Goals as goal
+use Rattle.otlp_canonical.proofs.anew.put_nested.Goals as goal
 
 pub returns : goal.returns
 returns c whole =
