@@ -134,13 +134,15 @@ fn given(
     }
 }
 
-/// What there is of a tenant: how many keys its three rows have and what is noted of them, and two latest rows.
-fn told(table: &TraceRows<u32>, tenant: u32) -> ([Option<(usize, u32)>; 3], Numbers) {
+/// What there is of a tenant: how many keys its first rows have and what is noted of them, the same of rows where one
+/// block ends and the next begins, and two latest rows.
+fn told(table: &TraceRows<u32>, tenant: u32) -> ([Option<(usize, u32)>; 6], Numbers) {
     let row = |number: u64| match table.row(tenant, number) {
         Some(row) => Some((row.keys.as_slice().len(), row.note)),
         None => None,
     };
-    ([row(1), row(2), row(3)], seats(table, tenant))
+    let first = [row(1), row(2), row(3), row(63), row(64), row(65)];
+    (first, seats(table, tenant))
 }
 
 /// What a call gives. Where memory is refused, both tenants have what they had, and it is done again.
@@ -219,16 +221,69 @@ note 8 3 = 10
 seats 7 = 2
 seats 8 = 1 3";
 
-// Each run with one allocation refused has to end well, too.
-#[test]
-fn rows_open_join_are_decided_and_leave(rt: HostRuntime) -> Result<(), Fail> {
-    let mut table = TraceRows::new(rt.alloc());
-    for line in STORY.lines() {
+/// The same with rows on both sides of a block's end, of two tenants side by side: one in the middle leaves, the latest
+/// is undone, a block that has no row any more gets one again, and rows open that don't follow each other.
+const BLOCKS: &str = "\
+open 7 63 10 = 0
+open 7 64 11 = 63
+open 7 65 12 = 64
+open 8 64 20 = 0
+open-other 8 65 21 = 0
+sweep 7 64 = 11
+waits 7 64 = 0
+waits 7 63 = 10
+waits 7 65 = 12
+waits 8 64 = 20
+join 7 64 13 = 13
+waits 7 64 = 0
+seats 7 = 65
+undo-open 7 65 63 = 0
+waits 7 65 = 0
+waits 7 63 = 10
+seats 7 = 63
+open 7 64 14 = 63
+waits 7 64 = 14
+open 7 130 15 = 64
+open 7 128 16 = 130
+waits 7 129 = 0
+sweep 7 130 = 15
+waits 7 128 = 16
+seats 7 = 128
+settle 7 128 = 16
+note 7 128 = 16 1
+sweep 7 63 = 10
+sweep 7 64 = 14
+sweep 7 64 = 0
+note 7 128 = 16 1
+sweep 7 128 = 0
+note 7 128 = 0
+seats 7 = 0
+waits 8 64 = 20
+waits 8 65 = 21
+seats 8 = 64 65";
+
+fn is_told(rt: &impl Abort, alloc: Global, story: &str) -> Result<(), AllocError> {
+    let mut table = TraceRows::new(alloc);
+    for line in story.lines() {
         let step = step_of(line);
         assert!(rt;
-            given_at_last(&rt, rt.alloc(), &mut table, &step)? == step.wanted,
+            given_at_last(rt, alloc, &mut table, &step)? == step.wanted,
             "at {line}"
         );
     }
+    Ok(())
+}
+
+// Each run with one allocation refused has to end well, too.
+#[test]
+fn rows_open_join_are_decided_and_leave(rt: HostRuntime) -> Result<(), Fail> {
+    is_told(&rt, rt.alloc(), STORY)?;
+    Ok(())
+}
+
+// The same of this one.
+#[test]
+fn rows_in_the_middle_leave_and_come_again(rt: HostRuntime) -> Result<(), Fail> {
+    is_told(&rt, rt.alloc(), BLOCKS)?;
     Ok(())
 }

@@ -1,6 +1,7 @@
 -- What a change of a map does to each tenant's part.
-use Rattle.std.proofs.Common.{◌≡◌, ◌≢◌, ℕ, refl, sym, ap, ◌∙◌, arith, List, Bool, true, false, Option, Some, None, option_map, Box, box_value, eqb, nat_eq, bytes_eq, cond, if◌then◌else◌, ◌&&◌, Ordering, Less, Equal, Greater}
+use Rattle.std.proofs.Common.{◌≡◌, ◌≢◌, ℕ, ◌+◌, ◌*◌, ◌/◌, ◌%◌, refl, sym, ap, ◌∙◌, arith, List, Bool, true, false, Option, Some, None, eqb, nat_eq, bytes_eq, cond, if◌then◌else◌, ◌&&◌, Ordering, Less, Equal, Greater}
 use Rattle.std.proofs.lemmas.Bool.Decides.{nat_tests}
+use Rattle.std.proofs.lemmas.Nat.{div-add-mod'}
 use Rattle.std.proofs.lemmas.Slice.Eq.{bytes_eq-Decides}
 use Rattle.std.proofs.Math.Path.{fun_ext}
 use Rattle.std.specs.Ordering.{nat_cmp, ordering_then, is_eq}
@@ -8,6 +9,9 @@ use Rattle.std.specs.declared.cmp.Reverse.{Reverse}
 use Rattle.std.specs.Cmp.{unsigned_ties, nat_eq_equiv}
 use Rattle.std.specs.BTreeMap.{BTreeMap}
 use Rattle.std.specs.BTreeMap as tree
+use Rattle.trace_rows.specs.declared.block.Block.{Block}
+use Rattle.trace_rows.specs.declared.table.Row.{Row}
+use Rattle.trace_rows.specs.Blocks.{block_rows, slots_of, slots_in, rows_in}
 use Rattle.trace_rows.specs.Maps.{pair_cmp, latest_cmp, at, is_id, halves, by_id, latest_rows_of}
 use Rattle.trace_rows.specs.Part.{with_at, with_latest_row}
 use Rattle.trace_rows.proofs.Ids.{both, same_of_halves}
@@ -126,29 +130,6 @@ seats_put m n t trace k w is number h =
 pub seats_put_other : (m n : BTreeMap (ℕ × (ℕ × ℕ)) ℕ) (t : ℕ) (k : ℕ × ℕ) (u : ℕ) (w : Option ℕ) → tree.Updates (pair_cmp (pair_cmp nat_cmp)) m n (t, k) w → u ≢ t → latest_rows_of u n.entries ≡ latest_rows_of u m.entries
 seats_put_other m n t k u w h ne = ap by_id (at_put_other ids m n t k u w h ne)
 
-module _ {X Z : Type 0} where
-  abbrev unboxed : Option (Box X Z) → Option X
-  unboxed = option_map box_value
-
-  unboxed_cond : (b : Bool) (one other : Option (Box X Z)) → unboxed (cond b one other) ≡ cond b (unboxed one) (unboxed other)
-  unboxed_cond true one other = refl
-  unboxed_cond false one other = refl
-
-  -- the same of rows in boxes, whose numbers are in order with the greatest first
-  abbrev numbered : ℕ → BTreeMap (ℕ × Reverse ℕ) (Box X Z) → ℕ → Option X
-  numbered t m j = unboxed (at latest_cmp t m.entries (record { 0 = j }))
-
-  abbrev by_number : (Reverse ℕ → Option (Box X Z)) → ℕ → Option X
-  by_number f j = unboxed (f (record { 0 = j }))
-
-  pub rows_put : (m n : BTreeMap (ℕ × Reverse ℕ) (Box X Z)) (t k : ℕ) (w : Option (Box X Z)) → tree.Updates (pair_cmp latest_cmp) m n (t, record { 0 = k }) w → numbered t n ≡ with_at k (unboxed w) (numbered t m)
-  rows_put m n t k w h =
-      ap by_number (at_put numbers m n t (record { 0 = k }) w h)
-      ∙ fun_ext (λ j. unboxed_cond (nat_eq j k) w (at latest_cmp t m.entries (record { 0 = j })))
-
-  pub rows_put_other : (m n : BTreeMap (ℕ × Reverse ℕ) (Box X Z)) (t k u : ℕ) (w : Option (Box X Z)) → tree.Updates (pair_cmp latest_cmp) m n (t, record { 0 = k }) w → u ≢ t → numbered u n ≡ numbered u m
-  rows_put_other m n t k u w h ne = ap by_number (at_put_other numbers m n t (record { 0 = k }) u w h ne)
-
 module _ {X : Type 0} where
   -- a value where none was, taken out again
   pub at_undone : (f : ℕ → Option X) (k : ℕ) (w : Option X) → f k ≡ None → with_at k None (with_at k w f) ≡ f
@@ -158,10 +139,104 @@ module _ {X : Type 0} where
       one j true e = let same : j ≡ k = grind (arith, nat_tests, e) in let there : f j ≡ None = ap f same ∙ none in grind (arith, nat_tests, e, there)
       one j false e = grind (arith, nat_tests, e)
 
-  -- the value that was there, written again
-  pub at_again : (f : ℕ → Option X) (k : ℕ) (v : X) → f k ≡ Some v → with_at k (Some v) f ≡ f
-  at_again f k v had = fun_ext (λ j. one j (eqb j k) refl)
+  -- what is there already, written again
+  pub with_same : (f : ℕ → Option X) (k : ℕ) (slot : Option X) → f k ≡ slot → with_at k slot f ≡ f
+  with_same f k slot had = fun_ext (λ j. one j (nat_eq j k) refl)
     where
-      one : (j : ℕ) (b : Bool) → eqb j k ≡ b → with_at k (Some v) f j ≡ f j
-      one j true e = let same : j ≡ k = grind (arith, nat_tests, e) in let there : f j ≡ Some v = ap f same ∙ had in grind (arith, nat_tests, e, there)
-      one j false e = grind (arith, nat_tests, e)
+      one : (j : ℕ) (b : Bool) → nat_eq j k ≡ b → with_at k slot f j ≡ f j
+      one j true e = let same : j ≡ k = grind (arith, nat_tests, e) in ap (λ (b : Bool). if b then slot else f j) e ∙ (sym had ∙ sym (ap f same))
+      one j false e = ap (λ (b : Bool). if b then slot else f j) e
+
+-- numbers of one block are one where their places are
+same_place : (j k : ℕ) → j / block_rows ≡ k / block_rows → nat_eq (j % block_rows) (k % block_rows) ≡ nat_eq j k
+same_place j k block = decide (nat_eq (j % block_rows) (k % block_rows)) (nat_eq j k) refl refl
+  where
+    decide : (a b : Bool) → nat_eq (j % block_rows) (k % block_rows) ≡ a → nat_eq j k ≡ b → a ≡ b
+    decide true true one two = refl
+    decide false false one two = refl
+    decide true false one two =
+        let place : j % block_rows ≡ k % block_rows = grind (arith, nat_tests, one) in
+        let same : j ≡ k = sym (div-add-mod' j block_rows) ∙ (ap (λ (n : ℕ). n * block_rows + j % block_rows) block ∙ (ap (λ (n : ℕ). k / block_rows * block_rows + n) place ∙ div-add-mod' k block_rows)) in
+        sym (ap (λ (n : ℕ). nat_eq n k) same ∙ nat_eq_equiv.refl k) ∙ two
+    decide false true one two =
+        let same : j ≡ k = grind (arith, nat_tests, two) in
+        sym one ∙ (ap (λ (n : ℕ). nat_eq (n % block_rows) (k % block_rows)) same ∙ nat_eq_equiv.refl (k % block_rows))
+
+-- the number of the block that has a row's number
+abbrev pub block_of : ℕ → Reverse ℕ
+block_of k = record { 0 = k / block_rows }
+
+module _ {N : Type 0} where
+  abbrev pub numbered : ℕ → BTreeMap (ℕ × Reverse ℕ) (Block N) → ℕ → Option (Row N)
+  numbered t m = rows_in (at latest_cmp t m.entries)
+
+  -- a row is at its place in its block
+  row_at : (f : Reverse ℕ → Option (Block N)) (k : ℕ) → rows_in f k ≡ slots_in (f (block_of k)) (k % block_rows)
+  unfolding rows_in
+  row_at f k = refl
+
+  one_put : (f : Reverse ℕ → Option (Block N)) (k : ℕ) (w : Option (Block N)) (slot : Option (Row N)) → slots_in w ≡ with_at (k % block_rows) slot (slots_in (f (block_of k))) → (j : ℕ) (a b : Bool) → nat_eq (j / block_rows) (k / block_rows) ≡ a → nat_eq j k ≡ b
+      → rows_in (put same_number (block_of k) w f) j ≡ with_at k slot (rows_in f) j
+  one_put f k w slot is j true b e two =
+      let block : j / block_rows ≡ k / block_rows = grind (arith, nat_tests, e) in
+      row_at (put same_number (block_of k) w f) j
+      ∙ (ap (λ (c : Bool). slots_in (if c then w else f (block_of j)) (j % block_rows)) e
+      ∙ (ap (λ (g : ℕ → Option (Row N)). g (j % block_rows)) is
+      ∙ (ap (λ (c : Bool). if c then slot else slots_in (f (block_of k)) (j % block_rows)) (same_place j k block)
+      ∙ ap (λ (r : Option (Row N)). if nat_eq j k then slot else r) (ap (λ (n : ℕ). slots_in (f (record { 0 = n })) (j % block_rows)) (sym block) ∙ sym (row_at f j)))))
+  one_put f k w slot is j false false e two =
+      row_at (put same_number (block_of k) w f) j
+      ∙ (ap (λ (c : Bool). slots_in (if c then w else f (block_of j)) (j % block_rows)) e
+      ∙ (sym (row_at f j) ∙ ap (λ (c : Bool). if c then slot else rows_in f j) (sym two)))
+  one_put f k w slot is j false true e two =
+      let same : j ≡ k = grind (arith, nat_tests, two) in
+      let bad : false ≡ true = sym e ∙ (ap (λ (n : ℕ). nat_eq (n / block_rows) (k / block_rows)) same ∙ nat_eq_equiv.refl (k / block_rows)) in
+      absurd (cc)
+
+  -- where a block has another row at a place, so do the rows at that number
+  rows_put : (m n : BTreeMap (ℕ × Reverse ℕ) (Block N)) (t k : ℕ) (w : Option (Block N)) (slot : Option (Row N)) → tree.Updates (pair_cmp latest_cmp) m n (t, block_of k) w → slots_in w ≡ with_at (k % block_rows) slot (slots_in (at latest_cmp t m.entries (block_of k)))
+      → numbered t n ≡ with_at k slot (numbered t m)
+  rows_put m n t k w slot h is =
+      ap rows_in (at_put numbers m n t (block_of k) w h)
+      ∙ fun_ext (λ j. one_put (at latest_cmp t m.entries) k w slot is j (nat_eq (j / block_rows) (k / block_rows)) (nat_eq j k) refl refl)
+
+  -- where a block's rows stay, so do all
+  rows_kept : (m n : BTreeMap (ℕ × Reverse ℕ) (Block N)) (t k : ℕ) (w : Option (Block N)) → tree.Updates (pair_cmp latest_cmp) m n (t, block_of k) w → slots_in w ≡ slots_in (at latest_cmp t m.entries (block_of k)) → numbered t n ≡ numbered t m
+  rows_kept m n t k w h is =
+      let f = at latest_cmp t m.entries in
+      let slot = slots_in (f (block_of k)) (k % block_rows) in
+      rows_put m n t k w slot h (is ∙ sym (with_same (slots_in (f (block_of k))) (k % block_rows) slot refl)) ∙ with_same (rows_in f) k slot (row_at f k)
+
+  pub rows_put_other : (m n : BTreeMap (ℕ × Reverse ℕ) (Block N)) (t k u : ℕ) (w : Option (Block N)) → tree.Updates (pair_cmp latest_cmp) m n (t, block_of k) w → u ≢ t → numbered u n ≡ numbered u m
+  rows_put_other m n t k u w h ne = ap rows_in (at_put_other numbers m n t (block_of k) u w h ne)
+
+  -- what an update has written is there
+  pub at_written : (m n : BTreeMap (ℕ × Reverse ℕ) (Block N)) (t k : ℕ) (w : Option (Block N)) → tree.Updates (pair_cmp latest_cmp) m n (t, block_of k) w → at latest_cmp t n.entries (block_of k) ≡ w
+  at_written m n t k w h =
+      let f = at latest_cmp t m.entries in
+      ap (λ (g : Reverse ℕ → Option (Block N)). g (block_of k)) (at_put numbers m n t (block_of k) w h) ∙ ap (λ (c : Bool). if c then w else f (block_of k)) (nat_eq_equiv.refl (k / block_rows))
+
+  -- the row at a number is at its place in the block that is there
+  pub row_there : (m : BTreeMap (ℕ × Reverse ℕ) (Block N)) (t k : ℕ) (block : Option (Block N)) → at latest_cmp t m.entries (block_of k) ≡ block → numbered t m k ≡ slots_in block (k % block_rows)
+  row_there m t k block there = row_at (at latest_cmp t m.entries) k ∙ ap (λ (b : Option (Block N)). slots_in b (k % block_rows)) there
+
+  -- a block with another row at a place, in the place of the one that was there
+  pub rows_put_in : (m n : BTreeMap (ℕ × Reverse ℕ) (Block N)) (t k : ℕ) (was : Option (Block N)) (block : Block N) (slot : Option (Row N)) → at latest_cmp t m.entries (block_of k) ≡ was → tree.Updates (pair_cmp latest_cmp) m n (t, block_of k) (Some block)
+      → slots_of block ≡ with_at (k % block_rows) slot (slots_in was) → numbered t n ≡ with_at k slot (numbered t m)
+  rows_put_in m n t k was block slot there h is = rows_put m n t k (Some block) slot h (is ∙ ap (λ (b : Option (Block N)). with_at (k % block_rows) slot (slots_in b)) (sym there))
+
+  -- a block with the same rows, in the place of the one that was there
+  pub rows_kept_in : (m n : BTreeMap (ℕ × Reverse ℕ) (Block N)) (t k : ℕ) (was : Option (Block N)) (block : Block N) → at latest_cmp t m.entries (block_of k) ≡ was → tree.Updates (pair_cmp latest_cmp) m n (t, block_of k) (Some block)
+      → slots_of block ≡ slots_in was → numbered t n ≡ numbered t m
+  rows_kept_in m n t k was block there h is = rows_kept m n t k (Some block) h (is ∙ ap slots_in (sym there))
+
+  -- a block without rows leaves
+  pub rows_freed : (m n : BTreeMap (ℕ × Reverse ℕ) (Block N)) (t k : ℕ) (block : Block N) → at latest_cmp t m.entries (block_of k) ≡ Some block → tree.Updates (pair_cmp latest_cmp) m n (t, block_of k) None → slots_of block ≡ (λ _. None) → numbered t n ≡ numbered t m
+  rows_freed m n t k block there h none = rows_kept m n t k None h (sym (ap slots_in there ∙ none))
+
+  -- a new block with a row, in the map as it was
+  pub rows_put_new : (was m n : BTreeMap (ℕ × Reverse ℕ) (Block N)) (t k : ℕ) (block : Block N) (slot : Option (Row N)) → m ≡ was → at latest_cmp t was.entries (block_of k) ≡ None → tree.Updates (pair_cmp latest_cmp) m n (t, block_of k) (Some block)
+      → slots_of block ≡ with_at (k % block_rows) slot (λ _. None) → numbered t n ≡ with_at k slot (numbered t was)
+  rows_put_new was m n t k block slot same none h is =
+      let there : at latest_cmp t m.entries (block_of k) ≡ None = ap (λ (x : BTreeMap (ℕ × Reverse ℕ) (Block N)). at latest_cmp t x.entries (block_of k)) same ∙ none in
+      rows_put_in m n t k None block slot there h is ∙ ap (λ (x : BTreeMap (ℕ × Reverse ℕ) (Block N)). with_at k slot (numbered t x)) same

@@ -1,15 +1,14 @@
 -- One tenant's part of the table, as functions of its own row numbers and traces: this project's own rule.
-use Rattle.std.specs.Prelude.{◌≡◌, ℕ, Bool, false, take, length, ◌-◌, List, [], ◌∷◌, ◌++◌, Option, Some, None, option_map, if◌then◌else◌, ◌==◌, bytes_eq}
-use Rattle.std.specs.Box.{box_value}
+use Rattle.std.specs.Prelude.{◌≡◌, ◌≢◌, ℕ, Bool, false, take, length, ◌-◌, List, [], ◌∷◌, ◌++◌, Option, Some, None, if◌then◌else◌, ◌==◌, bytes_eq}
 use Rattle.std.specs.List.{last_or}
+use Rattle.trace_rows.specs.Blocks.{rows_in}
 use Rattle.trace_rows.specs.Maps.{at, latest_cmp, latest_rows_of}
 use Rattle.trace_rows.specs.declared.table.Row.{Row}
 use Rattle.trace_rows.specs.declared.table.TraceRows.{TraceRows}
 
 -- a tenant's rows, by number
 abbrev pub rows_part : {N : Type 0} → ℕ → TraceRows N → ℕ → Option (Row N)
-rows_part tenant table = λ number.
-    option_map box_value (at latest_cmp tenant table.rows.entries (record { 0 = number }))
+rows_part tenant table = rows_in (at latest_cmp tenant table.blocks.entries)
 
 -- the number of the latest row of each of a tenant's traces, by the trace's id
 abbrev pub latest_rows_part : {N : Type 0} → ℕ → TraceRows N → List ℕ → Option ℕ
@@ -72,3 +71,9 @@ note_of note (Some row) = row.note
 pub record IsSame {N : Type 0} (tenant : ℕ) (old new : TraceRows N) : Type 0 where
   pub rows : rows_part tenant new ≡ rows_part tenant old
   pub latest_rows : latest_rows_part tenant new ≡ latest_rows_part tenant old
+
+-- a tenant has these rows, and all else is as it was
+pub record HasRows {N : Type 0} (tenant : ℕ) (now : ℕ → Option (Row N)) (old new : TraceRows N) : Type 0 where
+  pub rows : rows_part tenant new ≡ now
+  pub latest_rows : latest_rows_part tenant new ≡ latest_rows_part tenant old
+  pub others_unchanged : (other : ℕ) → other ≢ tenant → IsSame other old new

@@ -1,8 +1,12 @@
 //! The table of rows.
 
 ghost use Rattle.std.specs.Prelude.{◌≡◌, ◌≢◌, ℕ, IfOk, IfSome, OnOk, OnErr, Some, None, true, option_copied};
+ghost use Rattle.std.specs.Option.{option_copied_mut};
+ghost use Rattle.std.specs.Borrow.{sem};
+ghost use Rattle.trace_rows.specs.Lending.{lends_numbered};
 ghost use Rattle.trace_rows.specs.Part.{rows_part, latest_rows_part, with_at, with_latest_row, joined, unjoined, settled, latest_key, without_latest_row, keys_of, note_of, trace_in, IsSame};
 
+use crate::block::Block;
 use crate::keys::Keys;
 use crate::latest_rows::LatestRows;
 use std::alloc::{AllocError, Global};
@@ -24,13 +28,17 @@ pub struct Row<N> {
     pub sampled: bool,
 }
 
+// How many numbers that follow each other have their rows in one block. A block's growth moves no more rows than these,
+// and a block that has few rows has no more places than these.
+const BLOCK_ROWS: u64 = 64;
+
 /// All tenants' rows, and the latest row of each of their traces.
 #[derive(Drop)]
 pub struct TraceRows<N> {
     alloc: Global,
-    // By tenant and row number, the latest first: a look-up goes through the keys of a node from the first one on, and
-    // most are for the latest rows. Each row is in a box, as nodes have room for more rows than are in them.
-    rows: BTreeMap<(u32, Reverse<u64>), Box<Row<N>>>,
+    // By tenant and block number, the latest first: a look-up goes through the keys of a node from the first one on,
+    // and most are for the latest rows.
+    blocks: BTreeMap<(u32, Reverse<u64>), Block<N>>,
     latest_rows: LatestRows,
 }
 
@@ -42,7 +50,7 @@ impl<N: Drop> TraceRows<N> {
     {
         TraceRows {
             alloc,
-            rows: BTreeMap::new(alloc),
+            blocks: BTreeMap::new(alloc),
             latest_rows: LatestRows::new(alloc),
         }
     }
@@ -58,8 +66,8 @@ impl<N: Drop> TraceRows<N> {
     pub fn row(&self, tenant: u32, number: u64) -> Option<&Row<N>>
         ensures { option_copied result ≡ rows_part tenant self.now number }
     {
-        let boxed = self.rows.get(&(tenant, Reverse(number)))?;
-        Some(boxed)
+        let block = self.blocks.get(&(tenant, Reverse(number / BLOCK_ROWS)))?;
+        block.row((number % BLOCK_ROWS) as usize)
     }
 
     /// A row opens under a number that has none, as the latest of its trace. The answer is the trace's latest row until
@@ -78,12 +86,11 @@ impl<N: Drop> TraceRows<N> {
         ensures on_refusal { OnErr result (IsSame tenant self.old self.new) }
     {
         let trace = row.trace;
-        let boxed = Box::new(self.alloc, row)?;
-        self.rows.insert((tenant, Reverse(number)), boxed)?;
+        self.put(tenant, number, row)?;
         match self.latest_rows.put(tenant, trace, number) {
             Ok(earlier) => Ok(earlier),
             Err(refused) => {
-                self.rows.remove(&(tenant, Reverse(number)));
+                self.take(tenant, number);
                 Err(refused)
             }
         }
@@ -103,10 +110,9 @@ impl<N: Drop> TraceRows<N> {
         ensures others_unchanged { (other : ℕ) → other ≢ tenant → IsSame other self.old self.new }
         ensures on_refusal { OnErr result (IsSame tenant self.old self.new) }
     {
-        let Some(boxed) = self.rows.get_mut(&(tenant, Reverse(number))) else {
+        let Some(row) = self.row_mut(tenant, number) else {
             return Ok(note);
         };
-        let row = boxed.as_mut();
         row.keys.push(key)?;
         Ok(std::mem::replace(&mut row.note, note))
     }
@@ -121,10 +127,9 @@ impl<N: Drop> TraceRows<N> {
         ensures latest_rows { latest_rows_part tenant self.new ≡ latest_rows_part tenant self.old }
         ensures others_unchanged { (other : ℕ) → other ≢ tenant → IsSame other self.old self.new }
     {
-        let Some(boxed) = self.rows.get_mut(&(tenant, Reverse(number))) else {
+        let Some(row) = self.row_mut(tenant, number) else {
             return None;
         };
-        let row = boxed.as_mut();
         row.note = former;
         row.keys.pop()
     }
@@ -141,10 +146,9 @@ impl<N: Drop> TraceRows<N> {
             → latest_rows_part tenant self.new ≡ latest_rows_part tenant self.old }
         ensures others_unchanged { (other : ℕ) → other ≢ tenant → IsSame other self.old self.new }
     {
-        let Some(boxed) = self.rows.remove(&(tenant, Reverse(number))) else {
+        let Some(row) = self.take(tenant, number) else {
             return;
         };
-        let row = Box::into_inner(boxed);
         self.latest_rows.restore(tenant, row.trace, earlier);
     }
 
@@ -157,10 +161,9 @@ impl<N: Drop> TraceRows<N> {
         ensures latest_rows { latest_rows_part tenant self.new ≡ latest_rows_part tenant self.old }
         ensures others_unchanged { (other : ℕ) → other ≢ tenant → IsSame other self.old self.new }
     {
-        let Some(boxed) = self.rows.get_mut(&(tenant, Reverse(number))) else {
+        let Some(row) = self.row_mut(tenant, number) else {
             return Keys::new(alloc);
         };
-        let row = boxed.as_mut();
         row.sampled = sampled;
         std::mem::replace(&mut row.keys, Keys::new(alloc))
     }
@@ -175,12 +178,61 @@ impl<N: Drop> TraceRows<N> {
             (latest_rows_part tenant self.old) }
         ensures others_unchanged { (other : ℕ) → other ≢ tenant → IsSame other self.old self.new }
     {
-        let Some(boxed) = self.rows.remove(&(tenant, Reverse(number))) else {
+        let Some(row) = self.take(tenant, number) else {
             return Keys::new(alloc);
         };
-        let row = Box::into_inner(boxed);
         self.remove_latest(tenant, number, row.trace);
         row.keys
+    }
+
+    /// The tenant's row of this number, where there is one, for writing.
+    fn row_mut(&mut self, tenant: u32, number: u64) -> Option<&mut Row<N>>
+        ensures* writes_back { sem 𝓛 (lends_numbered N.row self.entry tenant number result) }
+        ensures value { option_copied_mut result ≡ rows_part tenant self.old number }
+    {
+        let block = self
+            .blocks
+            .get_mut(&(tenant, Reverse(number / BLOCK_ROWS)))?;
+        block.row_mut((number % BLOCK_ROWS) as usize)
+    }
+
+    /// The row comes under its number. Where memory is refused, it is dropped.
+    fn put(&mut self, tenant: u32, number: u64, row: Row<N>) -> Result<(), AllocError>
+        ensures rows { OnOk result (rows_part tenant self.new ≡
+            with_at number (Some row) (rows_part tenant self.old)) }
+        ensures latest_rows { self.new.latest_rows ≡ self.old.latest_rows }
+        ensures others_unchanged { (other : ℕ) → other ≢ tenant
+            → rows_part other self.new ≡ rows_part other self.old }
+        ensures on_refusal { OnErr result (rows_part tenant self.new ≡ rows_part tenant self.old) }
+    {
+        let place = (number % BLOCK_ROWS) as usize;
+        if let Some(block) = self.blocks.get_mut(&(tenant, Reverse(number / BLOCK_ROWS))) {
+            return block.put(place, row);
+        }
+        let mut block = Block::new(self.alloc);
+        block.put(place, row)?;
+        self.blocks
+            .insert((tenant, Reverse(number / BLOCK_ROWS)), block)?;
+        Ok(())
+    }
+
+    /// Takes the row out, and its block with the last of its rows. It takes no memory.
+    fn take(&mut self, tenant: u32, number: u64) -> Option<Row<N>>
+        ensures row { result ≡ rows_part tenant self.old number }
+        ensures rows { rows_part tenant self.new ≡ with_at number None (rows_part tenant self.old) }
+        ensures latest_rows { self.new.latest_rows ≡ self.old.latest_rows }
+        ensures others_unchanged { (other : ℕ) → other ≢ tenant
+            → rows_part other self.new ≡ rows_part other self.old }
+    {
+        let block = self
+            .blocks
+            .get_mut(&(tenant, Reverse(number / BLOCK_ROWS)))?;
+        let row = block.take((number % BLOCK_ROWS) as usize);
+        if !block.is_empty() {
+            return row;
+        }
+        self.blocks.remove(&(tenant, Reverse(number / BLOCK_ROWS)));
+        row
     }
 
     /// A trace has no latest row any more, where it is this row.
