@@ -1,4 +1,4 @@
-//! Uses of several texts at once.
+//! Uses of several texts at once. What holds and releases them is inlined: no [`TextRequest`] is then made in memory.
 
 ghost use Rattle.std.specs.Prelude.{◌≡◌, ◌++◌, ◌∷◌, [], ℕ, Option, IfOk, OnErr, option_to_list, option_copied};
 ghost use Rattle.text_pool.specs.Part.{part};
@@ -35,6 +35,7 @@ pub(crate) fn wanted_new(text: Option<&SharedBytes>) -> TextRequest<'_>
 }
 
 /// The text at this key, where there is one.
+#[inline(always)]
 pub(crate) fn wanted_again<'a>(key: Option<u32>) -> TextRequest<'a>
     ensures { result ≡ again_of key }
 {
@@ -45,6 +46,7 @@ pub(crate) fn wanted_again<'a>(key: Option<u32>) -> TextRequest<'a>
 }
 
 /// One use more of a text, where one is wanted. The answer is its key.
+#[inline(always)]
 fn hold_one(
     texts: &mut TextPool,
     tenant: u32,
@@ -72,6 +74,7 @@ fn hold_one(
 }
 
 /// One use more of two texts, or of none.
+#[inline(always)]
 fn hold_two(
     texts: &mut TextPool,
     tenant: u32,
@@ -102,6 +105,7 @@ fn hold_two(
 }
 
 /// One use more of each of the four texts that a span shares with others, or of none. The answer is their keys.
+#[inline(always)]
 pub(crate) fn hold_four(
     texts: &mut TextPool,
     tenant: u32,
@@ -150,6 +154,7 @@ pub(crate) fn release_all(texts: &mut TextPool, tenant: u32, keys: TextKeys)
 }
 
 /// One use less of the text with this key, where there is a key.
+#[inline(always)]
 fn release(texts: &mut TextPool, tenant: u32, key: Option<u32>)
     ensures uses_removed { part tenant texts.new ≡ all_released (option_to_list key)
         (part tenant texts.old) }
