@@ -58,6 +58,20 @@ origin_at texts keys = record {
 abbrev pub texts_of : (ℕ → Option (List ℕ)) → StoredData → SpanTexts
 texts_of texts span = record { origin = origin_at texts span.keys; text = span.text }
 
+-- the same key, or none in both
+abbrev pub same_key : Option ℕ → Option ℕ → Bool
+same_key one other = option_eq nat_eq one other
+
+-- the same key in each place
+abbrev pub same_keys : TextKeys → TextKeys → Bool
+same_keys one other =
+    same_key one.resource other.resource && (same_key one.resource_schema_url other.resource_schema_url
+    && (same_key one.scope other.scope && same_key one.scope_schema_url other.scope_schema_url))
+
+-- keys of one tenant, the same in each place, so that both name the same texts
+abbrev pub is_like : StoredData → StoredData → Bool
+is_like one other = nat_eq one.owner other.owner && same_keys one.keys other.keys
+
 -- the same bytes in the same order
 abbrev pub same_bytes : List ℕ → List ℕ → Bool
 same_bytes one other = pointwise nat_eq one other

@@ -1,6 +1,7 @@
 //! What is kept of a span: its own text, and keys in the place of those that it shares.
 
 ghost use Rattle.std.specs.Prelude.{◌≡◌};
+ghost use Rattle.span_pool.specs.Stored.{is_like};
 
 use crate::keys::TextKeys;
 use crate::owned::Owned;
@@ -46,6 +47,15 @@ impl StoredSpan {
         ensures { result ≡ self.now.keys }
     {
         self.source.keys()
+    }
+
+    /// Whether both are one tenant's and have the same keys. No text is looked at, so spans that are unlike may share
+    /// all the same: equal texts can have several keys.
+    #[inline(always)]
+    pub fn is_like(&self, other: &StoredSpan) -> bool
+        ensures { result ≡ is_like self.now other.now }
+    {
+        self.source.owner() == other.source.owner() && self.source.keys() == other.source.keys()
     }
 }
 
