@@ -28,6 +28,7 @@ KNOWN = [
     ("settings_check/src/read.rt", "document", 1, "the TOML reader's error says that it is want of memory"),
     ("text_slice/src/text_slice.rt", "whole", 1, "a place in a block has 32 bits, and this block has more bytes"),
     ("span_pool/src/pool.rt", "put", 1, "a key has 32 bits, and the vacant one has more"),
+    ("span_batcher/src/encode.rt", "put_front", 1, "a length has 64 bits, and what is to follow may have more bytes"),
     ("text_pool/src/pool.rt", "put", 1, "the same of a text"),
     ("tenant_pipeline/src/outbox.rt", "offer", 1, "the queue gives the batch back with its want of memory"),
     ("tenant_pipeline/src/unsent.rt", "write", 1, "the queue gives the batch back with its want of memory"),

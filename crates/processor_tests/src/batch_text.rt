@@ -125,6 +125,11 @@ fn bytes_of_scopes(name: &str) -> &'static [u8] {
         }
         // One resource spans for the three, of 17 bytes, with scope spans of 15.
         "missing" => { b"\x0a\x11\x12\x0f\x12\x03\x2a\x01a\x12\x03\x2a\x01b\x12\x03\x2a\x01c" }
+        // One resource spans for the three, of 26 bytes, with scope spans of 20.
+        "blocks" => {
+            b"\x0a\x1a\x0a\x02\x10\x01\x12\x14\x0a\x03\x0a\x01s\x12\x03\x2a\x01a\
+\x12\x03\x2a\x01b\x12\x03\x2a\x01c"
+        }
         // A missing resource, and an empty one of two bytes.
         "empty" => b"\x0a\x07\x12\x05\x12\x03\x2a\x01a\x0a\x09\x0a\x00\x12\x05\x12\x03\x2a\x01b",
         // One resource spans for the three, of 21 bytes, with scope spans of 15.
@@ -144,6 +149,7 @@ const BATCHES: &str = "\
 7:a:-:-:-:- 7:b:-:e:-:- 7:c:gone:-:-:- = missing
 7:a:-:-:-:- 7:b:-:gone:-:- 7:c:others:others:-:- = missing
 7:a:-:-:-:- 7:b:e:e:-:- = empty
+7:a:one:-:s:- 7:b:one:-:s:- 8:c:one:-:s:- = blocks
 7:a:one:-:-:- 8:b:one:-:-:- 7:c:one:-:-:- = keys";
 
 #[test]

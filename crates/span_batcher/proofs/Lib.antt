@@ -7,4 +7,7 @@ pub mod Maps
 pub mod Held
 pub mod Runs
 pub mod Written
+pub mod Alike
+pub mod Blocks
+pub mod Sizes
 pub mod Requests

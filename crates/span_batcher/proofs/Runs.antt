@@ -1,6 +1,6 @@
 -- Runs of a list: the first one, all of them together, and those of a list in which each element is told by another.
-use Rattle.std.proofs.Common.{◌≡◌, ℕ, zero, suc, ◌+◌, ◌<◌, ◌≤◌, Bool, true, false, cond, List, [], ◌∷◌, ◌++◌, length, map, take, drop, get_or, refl, sym, ap, ◌∙◌, subst, arith, append_assoc, flat_map}
-use Rattle.std.proofs.lemmas.List.{length-map, get_or-map}
+use Rattle.std.proofs.Common.{◌≡◌, ℕ, zero, suc, ◌+◌, ◌<◌, ◌≤◌, Bool, true, false, cond, List, [], ◌∷◌, ◌++◌, length, map, take, drop, get_or, refl, sym, ap, ◌∙◌, arith, append_assoc, flat_map}
+use Rattle.std.proofs.lemmas.List.{drop-drop, drop_all}
 use Rattle.std.specs.List.{AllByRecursion}
 use Rattle.span_batcher.specs.ExportText.{joined_to, runs}
 
@@ -93,11 +93,16 @@ module _ {A : Type 0} (same : A → A → Bool) where
   starts [] some = absurd (omega arith)
   starts (x ∷ xs) some = after-none x (runs same xs)
 
-  -- a first run that is written, and those that are left
-  pub one_run : (field : List A → List ℕ) (left run others : List A) (out new whole : List ℕ) → runs same left ≡ run ∷ runs same others → new ≡ out ++ field run
-      → out ++ flat_map field (runs same left) ≡ whole → new ++ flat_map field (runs same others) ≡ whole
-  one_run field left run others out new whole first written all =
-      ap (λ xs. xs ++ flat_map field (runs same others)) written ∙ (append_assoc out (field run) (flat_map field (runs same others)) ∙ (ap (λ rs. out ++ flat_map field rs) (sym first) ∙ all))
+  -- the next run is the front of what is left
+  pub next_run : (all left run : List A) (start count : ℕ) → left ≡ drop start all → run ≡ take count left → runs same left ≡ take count left ∷ runs same (drop count left)
+      → runs same (drop start all) ≡ run ∷ runs same (drop (start + count) all)
+  next_run all left run start count back front first =
+      let backs : drop count left ≡ drop (start + count) all = ap (drop count) back ∙ drop-drop count start all in
+      ap (runs same) (sym back) ∙ (first ∙ (λ i. sym front i ∷ runs same (backs i)))
+
+  -- nothing is left
+  pub none_left : (all : List A) (start : ℕ) → length all ≤ start → runs same (drop start all) ≡ []
+  none_left all start past = ap (runs same) (drop_all start all past)
 
   -- ---- all runs
 
@@ -179,24 +184,3 @@ module _ {A B : Type 0} (f : A → B) (same : B → B → Bool) where
   -- what is written of the runs
   pub fields_of_runs : (field : List B → List ℕ) (xs : List A) → flat_map (λ run. field (map f run)) (runs (λ a b. same (f a) (f b)) xs) ≡ flat_map field (runs same (map f xs))
   fields_of_runs field xs = fields_of-map field (runs (λ a b. same (f a) (f b)) xs) ∙ ap (flat_map field) (runs-map xs)
-
-  long : (xs : List A) (i : ℕ) → i < length xs → i < length (map f xs)
-  long xs i within = subst (λ (n : ℕ). i < n) (sym (length-map xs f)) within
-
-  read : (xs : List A) (i : ℕ) (a : A) → i < length xs → a ≡ get_or xs i a → f a ≡ get_or (map f xs) i (f a)
-  read xs i a within at = ap f at ∙ sym (get_or-map f xs i a (f a) within)
-
-  -- the same of the elements themselves
-  pub starts_in : (xs : List A) → 0 < length xs → after [] (runs same (map f xs)) ≡ runs same (map f xs)
-  starts_in xs some = starts same (map f xs) (long xs 0 some)
-
-  pub goes_on_in : (xs : List A) (i : ℕ) (a b : A) → i + 1 < length xs → a ≡ get_or xs i a → b ≡ get_or xs (i + 1) b → same (f a) (f b) ≡ true
-      → after (take (i + 1) (map f xs)) (runs same (drop (i + 1) (map f xs))) ≡ after (take i (map f xs)) (runs same (drop i (map f xs)))
-  goes_on_in xs i a b within at next is = goes_on same (map f xs) i (f a) (f b) (long xs (i + 1) within) (read xs i a (omega arith) at) (read xs (i + 1) b within next) is
-
-  pub ends_in : (xs : List A) (i : ℕ) → i < length xs → length xs ≤ i + 1 → after (take i (map f xs)) (runs same (drop i (map f xs))) ≡ take (i + 1) (map f xs) ∷ runs same (drop (i + 1) (map f xs))
-  ends_in xs i within all = ends same (map f xs) i (long xs i within) (subst (λ (n : ℕ). n ≤ i + 1) (sym (length-map xs f)) all)
-
-  pub stops_in : (xs : List A) (i : ℕ) (a b : A) → i + 1 < length xs → a ≡ get_or xs i a → b ≡ get_or xs (i + 1) b → same (f a) (f b) ≡ false
-      → after (take i (map f xs)) (runs same (drop i (map f xs))) ≡ take (i + 1) (map f xs) ∷ runs same (drop (i + 1) (map f xs))
-  stops_in xs i a b within at next is = stops same (map f xs) i (f a) (f b) (long xs (i + 1) within) (read xs i a (omega arith) at) (read xs (i + 1) b within next) is

@@ -1,6 +1,6 @@
 -- The text of spans that share a resource, or a scope.
-use Rattle.std.proofs.Common.{◌≡◌, ℕ, List, [], ◌∷◌, ◌++◌, map, length, take, drop, slice_get, Some, refl, sym, ap, ◌∙◌, append_assoc, flat_map}
-use Rattle.std.proofs.Math.Seq.{take-append_seam, drop-append_seam}
+use Rattle.std.proofs.Common.{◌≡◌, ℕ, ◌+◌, ◌<◌, List, [], ◌∷◌, ◌++◌, length, map, drop, get_or, slice_get, Some, refl, sym, ap, ◌∙◌, append_assoc, flat_map}
+use Rattle.std.proofs.lemmas.List.{at_drop_more}
 use Rattle.otlp_trace.specs.Text.{bytes_field, repeated, scope_spans_of, resource_spans_of}
 use Rattle.span_pool.specs.Stored.{SpanTexts}
 use Rattle.span_batcher.specs.ExportText.{runs, same_scope, scope_spans_field, resource_spans_field}
@@ -14,13 +14,14 @@ pub repeated-map : {A B : Type 0} (n : ℕ) (text : B → List ℕ) (f : A → B
 repeated-map n text f [] = refl
 repeated-map n text f (x ∷ xs) = ap (λ bs. bytes_field n (text (f x)) ++ bs) (repeated-map n text f xs)
 
--- bytes that were written and then made the content of a field
-pub wrapped : (field : List ℕ → List ℕ) (out first second third all new : List ℕ) (start : ℕ) → start ≡ length out → all ≡ ((out ++ first) ++ second) ++ third → new ≡ take start all ++ field (drop start all) → new ≡ out ++ field (first ++ (second ++ third))
-wrapped field out first second third all new start at is made =
-    let parts : all ≡ out ++ (first ++ (second ++ third)) = is ∙ (append_assoc (out ++ first) second third ∙ append_assoc out first (second ++ third)) in
-    let front : take start all ≡ out = ap (λ n. take n all) at ∙ (ap (take (length out)) parts ∙ take-append_seam out (first ++ (second ++ third))) in
-    let rest : drop start all ≡ first ++ (second ++ third) = ap (λ n. drop n all) at ∙ (ap (drop (length out)) parts ∙ drop-append_seam out (first ++ (second ++ third))) in
-    made ∙ (ap (λ bs. bs ++ field (drop start all)) front ∙ ap (λ bs. out ++ field bs) rest)
+-- what is left of a list, by the next of it
+pub next_part : {A B : Type 0} (f : List A → B) (xs : List A) (i : ℕ) (x : A) → i < length xs → x ≡ get_or xs i x → f (drop i xs) ≡ f (x ∷ drop (i + 1) xs)
+next_part f xs i x within at = at_drop_more f xs i x within ∙ ap (λ y. f (y ∷ drop (i + 1) xs)) (sym at)
+
+-- three parts, one behind the other
+pub three_written : (out one two new first second third : List ℕ) → one ≡ out ++ first → two ≡ one ++ second → new ≡ two ++ third → new ≡ out ++ (first ++ (second ++ third))
+three_written out one two new first second third is_one is_two is_new =
+    is_new ∙ (ap (λ bs. bs ++ third) (is_two ∙ ap (λ bs. bs ++ second) is_one) ∙ (append_assoc (out ++ first) second third ∙ append_assoc out first (second ++ third)))
 
 -- spans of which this is the first
 pub scope_field : (x : SpanTexts) (spans : List SpanTexts) → slice_get spans 0 ≡ Some x →

@@ -1,13 +1,18 @@
 //! The text of a batch.
 
-ghost use Rattle.std.specs.Prelude.{◌≡◌, ◌<◌, ◌≤◌, ◌++◌, ◌∷◌, ◌==◌, ℕ, Bool, List, length, take, drop, flat_map, IfOk, OnOk, option_copied};
+ghost use Rattle.std.specs.Prelude.{◌≡◌, ◌^◌, ◌-◌, ◌<◌, ◌≤◌, ◌++◌, ◌∷◌, ◌==◌, ℕ, Bool, List, length, take, drop, flat_map, IfOk, OnOk, option_copied};
+ghost use Rattle.pb_wire.specs.Text.{tag_text, varint_text};
 ghost use Rattle.otlp_trace.specs.Text.{embedded, repeated};
 ghost use Rattle.span_pool.specs.Stored.{SpanTexts, text_at, bytes_of, same_bytes, same_text};
 ghost use Rattle.span_batcher.specs.ExportText.{runs, same_resource, same_scope, scope_spans_field, resource_spans_field, export_text};
 ghost use Rattle.span_batcher.specs.Texts.{texts_in, span_in, spans_in};
+ghost use Rattle.span_batcher.specs.Blocks.{own_texts, placed, alike, fields_in, scope_content, resource_content, capped};
 
+use crate::block::{Block, blocks_of};
+use crate::size::{embedded_size, field_size, url_size};
 use bytes::Bytes;
-use otlp_trace::{put_bytes_field, put_some_bytes, wrap_in_field};
+use otlp_trace::{put_bytes_field, put_some_bytes};
+use pb_wire::{WireType, put_tag, put_varint};
 use span_pool::{Owned, StoredSpan};
 use std::alloc::{AllocError, Global};
 use text_pool::TextPool;
@@ -16,8 +21,8 @@ use text_slice::TextSlice;
 /// The number of `resource` in a `ResourceSpans`, of `scope` in a `ScopeSpans`, and of `resource_spans` in a request.
 const FIRST: u32 = 1;
 
-/// The number of `scope_spans` in a `ResourceSpans`, and of `spans` in a `ScopeSpans`.
-const INNER: u32 = 2;
+/// The number of `scope_spans` in a `ResourceSpans`.
+const SCOPE_SPANS: u32 = 2;
 
 /// The number of `schema_url` in both.
 const SCHEMA_URL: u32 = 3;
@@ -118,15 +123,43 @@ fn put_embedded(out: &mut Vec<u8>, text: Option<&TextSlice>) -> Result<(), Alloc
     }
 }
 
-/// Appends the spans, each as a field of a `ScopeSpans`.
-fn put_spans(out: &mut Vec<u8>, spans: &[&StoredSpan]) -> Result<(), AllocError>
-    ensures { OnOk result (out.new.items ≡ out.old.items ++ repeated 2 (λ span. span.now.text)
-        spans.now) }
+/// Appends what stands before a field's content: the tag, and that the content has so many bytes. A size that isn't
+/// below the greatest `usize` is refused, since more bytes than that may count as so many.
+fn put_front(out: &mut Vec<u8>, number: u32, size: usize) -> Result<(), AllocError>
+    requires number_not_zero { 0 < number }
+    requires fits { number < 2 ^ 29 }
+    ensures on_success { OnOk result (out.new.items ≡ out.old.items ++ (tag_text number
+        WireType.Bytes ++ varint_text size)) }
+    ensures counted { OnOk result (size < 2 ^ 64 - 1) }
 {
-    for span in spans {
-        put_bytes_field(out, INNER, span.text().as_slice())?;
+    if size == usize::MAX {
+        return Err(AllocError);
+    }
+    put_tag(out, number, WireType::Bytes)?;
+    put_varint(out, size as u64)
+}
+
+/// Appends the blocks' spans, each as a field of a `ScopeSpans`.
+fn put_blocks(out: &mut Vec<u8>, blocks: &[Block<'_>]) -> Result<(), AllocError>
+    ensures { OnOk result (out.new.items ≡ out.old.items
+        ++ flat_map (λ block. repeated 2 (λ text. text) (own_texts block)) blocks.now) }
+{
+    for block in blocks {
+        block.put(out)?;
     }
     Ok(())
+}
+
+/// How many bytes the blocks' spans take so.
+fn blocks_size(blocks: &[Block<'_>]) -> usize
+    ensures { result ≡ capped (length (flat_map (λ block. repeated 2 (λ text. text)
+        (own_texts block)) blocks.now)) }
+{
+    let mut size = 0usize;
+    for block in blocks {
+        size = size.saturating_add(block.bytes());
+    }
+    size
 }
 
 /// What neighbours share, and what is written of those that share it.
@@ -138,13 +171,107 @@ pub trait Level {
     fn is_same(texts: &TextPool, one: &StoredSpan, other: &StoredSpan) -> bool
         ensures { result ≡ same (span_in texts.now one.now) (span_in texts.now other.now) };
 
-    fn put(out: &mut Vec<u8>, texts: &TextPool, spans: &[&StoredSpan]) -> Result<(), AllocError>
+    fn put(out: &mut Vec<u8>, texts: &TextPool, blocks: &[Block<'_>]) -> Result<(), AllocError>
         ensures { OnOk result (out.new.items ≡ out.old.items ++ field
-            (spans_in texts.now spans.now)) };
+            (placed texts.now blocks.now)) };
+}
+
+/// How many blocks the first run has.
+fn leading<L: Level>(texts: &TextPool, blocks: &[Block<'_>]) -> usize
+    requires { 0 < length blocks.now }
+    ensures not_empty { 0 < result }
+    ensures within { result ≤ length blocks.now }
+    ensures first { runs (alike texts.now L.same) blocks.now ≡ take result blocks.now
+        ∷ runs (alike texts.now L.same) (drop result blocks.now) }
+{
+    let mut last = 0;
+    while last + 1 < blocks.len()
+        && L::is_same(
+            texts,
+            blocks[last].first_span(),
+            blocks[last + 1].first_span(),
+        )
+    {
+        last += 1;
+    }
+    last + 1
+}
+
+/// Appends the blocks run by run.
+fn put_runs<L: Level>(
+    out: &mut Vec<u8>,
+    texts: &TextPool,
+    blocks: &[Block<'_>],
+) -> Result<(), AllocError>
+    ensures { OnOk result (out.new.items ≡ out.old.items ++ fields_in texts.now L.same L.field
+        blocks.now) }
+{
+    let mut start = 0;
+    while start < blocks.len() {
+        let (_, left) = blocks.split_at(start);
+        let count = leading::<L>(texts, left);
+        let (run, _) = left.split_at(count);
+        L::put(out, texts, run)?;
+        start += count;
+    }
+    Ok(())
 }
 
 /// A scope, with its schema.
 pub struct ScopeLevel;
+
+/// How many bytes a `ScopeSpans` with the first's scope holds.
+fn scope_size(texts: &TextPool, first: &StoredSpan, blocks: &[Block<'_>]) -> usize
+    ensures { result ≡ capped (length (scope_content (span_in texts.now first.now)
+        (placed texts.now blocks.now))) }
+{
+    embedded_size(scope_of(texts, first))
+        .saturating_add(blocks_size(blocks))
+        .saturating_add(url_size(scope_url_of(texts, first)))
+}
+
+/// How many bytes the blocks, which have one scope, take as a `ScopeSpans`.
+fn scope_spans_size(texts: &TextPool, blocks: &[Block<'_>]) -> usize
+    ensures { result ≡ capped (length (scope_spans_field (placed texts.now blocks.now))) }
+{
+    let Some(block) = blocks.first() else {
+        return 0;
+    };
+    field_size(scope_size(texts, block.first_span(), blocks))
+}
+
+/// How many bytes the blocks take, scope by scope.
+fn scopes_size(texts: &TextPool, blocks: &[Block<'_>]) -> usize
+    ensures { result ≡ capped (length (fields_in texts.now same_scope scope_spans_field
+        blocks.now)) }
+{
+    let mut size = 0usize;
+    let mut start = 0;
+    while start < blocks.len() {
+        let (_, left) = blocks.split_at(start);
+        let count = leading::<ScopeLevel>(texts, left);
+        let (run, _) = left.split_at(count);
+        let more = scope_spans_size(texts, run);
+        size = size.saturating_add(more);
+        start += count;
+    }
+    size
+}
+
+/// Appends what a `ScopeSpans` with the first's scope holds.
+fn put_scope(
+    out: &mut Vec<u8>,
+    texts: &TextPool,
+    first: &StoredSpan,
+    blocks: &[Block<'_>],
+) -> Result<(), AllocError>
+    ensures { OnOk result (out.new.items ≡ out.old.items ++ scope_content
+        (span_in texts.now first.now) (placed texts.now blocks.now)) }
+{
+    put_embedded(out, scope_of(texts, first))?;
+    put_blocks(out, blocks)?;
+    put_some_bytes(out, SCHEMA_URL, scope_url_of(texts, first))
+}
 
 impl Level for ScopeLevel {
     ghost same = { same_scope };
@@ -158,20 +285,43 @@ impl Level for ScopeLevel {
             && is_same_url(texts, tenants, one.scope_schema_url, other.scope_schema_url)
     }
 
-    fn put(out: &mut Vec<u8>, texts: &TextPool, spans: &[&StoredSpan]) -> Result<(), AllocError> {
-        let Some(first) = spans.first() else {
+    fn put(out: &mut Vec<u8>, texts: &TextPool, blocks: &[Block<'_>]) -> Result<(), AllocError> {
+        let Some(block) = blocks.first() else {
             return Ok(());
         };
-        let start = out.len();
-        put_embedded(out, scope_of(texts, first))?;
-        put_spans(out, spans)?;
-        put_some_bytes(out, SCHEMA_URL, scope_url_of(texts, first))?;
-        wrap_in_field(out, start, INNER)
+        let first = block.first_span();
+        put_front(out, SCOPE_SPANS, scope_size(texts, first, blocks))?;
+        put_scope(out, texts, first, blocks)
     }
 }
 
 /// A resource, with its schema.
 pub struct ResourceLevel;
+
+/// How many bytes a `ResourceSpans` with the first's resource holds.
+fn resource_size(texts: &TextPool, first: &StoredSpan, blocks: &[Block<'_>]) -> usize
+    ensures { result ≡ capped (length (resource_content (span_in texts.now first.now)
+        (placed texts.now blocks.now))) }
+{
+    embedded_size(resource_of(texts, first))
+        .saturating_add(scopes_size(texts, blocks))
+        .saturating_add(url_size(resource_url_of(texts, first)))
+}
+
+/// Appends what a `ResourceSpans` with the first's resource holds.
+fn put_resource(
+    out: &mut Vec<u8>,
+    texts: &TextPool,
+    first: &StoredSpan,
+    blocks: &[Block<'_>],
+) -> Result<(), AllocError>
+    ensures { OnOk result (out.new.items ≡ out.old.items ++ resource_content
+        (span_in texts.now first.now) (placed texts.now blocks.now)) }
+{
+    put_embedded(out, resource_of(texts, first))?;
+    put_runs::<ScopeLevel>(out, texts, blocks)?;
+    put_some_bytes(out, SCHEMA_URL, resource_url_of(texts, first))
+}
 
 impl Level for ResourceLevel {
     ghost same = { same_resource };
@@ -190,51 +340,14 @@ impl Level for ResourceLevel {
             )
     }
 
-    fn put(out: &mut Vec<u8>, texts: &TextPool, spans: &[&StoredSpan]) -> Result<(), AllocError> {
-        let Some(first) = spans.first() else {
+    fn put(out: &mut Vec<u8>, texts: &TextPool, blocks: &[Block<'_>]) -> Result<(), AllocError> {
+        let Some(block) = blocks.first() else {
             return Ok(());
         };
-        let start = out.len();
-        put_embedded(out, resource_of(texts, first))?;
-        put_runs::<ScopeLevel>(out, texts, spans)?;
-        put_some_bytes(out, SCHEMA_URL, resource_url_of(texts, first))?;
-        wrap_in_field(out, start, FIRST)
+        let first = block.first_span();
+        put_front(out, FIRST, resource_size(texts, first, blocks))?;
+        put_resource(out, texts, first, blocks)
     }
-}
-
-/// How many spans the first run has.
-fn leading<L: Level>(texts: &TextPool, spans: &[&StoredSpan]) -> usize
-    requires { 0 < length spans.now }
-    ensures not_empty { 0 < result }
-    ensures within { result ≤ length spans.now }
-    ensures first { runs L.same (spans_in texts.now spans.now) ≡ take result
-        (spans_in texts.now spans.now) ∷ runs L.same (drop result (spans_in texts.now spans.now)) }
-{
-    let mut last = 0;
-    while last + 1 < spans.len() && L::is_same(texts, spans[last], spans[last + 1]) {
-        last += 1;
-    }
-    last + 1
-}
-
-/// Appends the spans run by run.
-fn put_runs<L: Level>(
-    out: &mut Vec<u8>,
-    texts: &TextPool,
-    spans: &[&StoredSpan],
-) -> Result<(), AllocError>
-    ensures { OnOk result (out.new.items
-        ≡ out.old.items ++ flat_map L.field (runs L.same (spans_in texts.now spans.now))) }
-{
-    let mut start = 0;
-    while start < spans.len() {
-        let (_, left) = spans.split_at(start);
-        let count = leading::<L>(texts, left);
-        let (run, _) = left.split_at(count);
-        L::put(out, texts, run)?;
-        start += count;
-    }
-    Ok(())
 }
 
 /// What a batch of these spans is sent as: the canonical text of an OTLP request (`ExportTraceServiceRequest`) in which
@@ -248,8 +361,9 @@ pub fn encode_batch(
 ) -> Result<Bytes, AllocError>
     ensures { IfOk result (λ payload. payload ≡ export_text (spans_in texts.now spans.now)) }
 {
-    let mut text = Vec::with_capacity(alloc, room_for(texts, spans))?;
-    put_runs::<ResourceLevel>(&mut text, texts, spans)?;
+    let blocks = blocks_of(alloc, spans)?;
+    let mut text = Vec::with_capacity(alloc, room_for(texts, &blocks))?;
+    put_runs::<ResourceLevel>(&mut text, texts, &blocks)?;
     Ok(Bytes::from_vec(text)?)
 }
 
@@ -270,16 +384,12 @@ fn room_around(texts: &TextPool, span: &StoredSpan) -> usize {
 }
 
 /// Room for a batch's text, so that it needn't grow: the largest batch must find memory in one piece, not in two.
-fn room_for(texts: &TextPool, spans: &[&StoredSpan]) -> usize {
+fn room_for(texts: &TextPool, blocks: &[Block<'_>]) -> usize {
     let mut room = 0usize;
-    let mut last = None;
-    for span in spans {
-        let keys = span.keys();
-        if last != Some(keys) {
-            room = room.saturating_add(room_around(texts, span));
-            last = Some(keys);
-        }
-        room = room.saturating_add(span.text().len()).saturating_add(FRAME);
+    for block in blocks {
+        room = room
+            .saturating_add(room_around(texts, block.first_span()))
+            .saturating_add(block.bytes());
     }
     room
 }

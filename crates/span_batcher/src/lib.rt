@@ -10,9 +10,9 @@
 //! read as such, is a law ([`batches_are_requests`]). It is put together from texts: each span has its own, and those
 //! that spans share are named by keys and kept in a pool, so neighbours are most often compared by their keys alone.
 //!
-//! It stands on `text_pool`, `span_pool` and `text_slice`, on `otlp_trace` and `otlp_read` for requests and their text,
-//! and on the library's `bytes`. The rules are those of the OpenTelemetry Collector's batch processor (`timeout`,
-//! `send_batch_size`, `send_batch_max_size`) and of OTLP 1.x.
+//! It stands on `text_pool`, `span_pool` and `text_slice`, on `pb_wire`, `otlp_trace` and `otlp_read` for requests and
+//! their text, and on the library's `bytes`. The rules are those of the OpenTelemetry Collector's batch processor
+//! (`timeout`, `send_batch_size`, `send_batch_max_size`) and of OTLP 1.x.
 #![tactic(auto)]
 
 ghost use Rattle.std.specs.Prelude.{ℕ};
@@ -22,10 +22,12 @@ ghost use Rattle.span_batcher.specs.Timers.{Passes, AllCome};
 
 mod batch;
 mod batcher;
+mod block;
 mod encode;
 mod mark;
 mod planned;
 mod request;
+mod size;
 
 pub use batch::Batch;
 pub use batcher::SpanBatcher;

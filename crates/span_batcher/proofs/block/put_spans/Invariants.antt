@@ -2,7 +2,7 @@ use Rattle.std.proofs.Common.{◌≡◌, ◌++◌, drop}
 use Rattle.std.specs.Borrow.{Bor}
 use Rattle.otlp_trace.specs.Text.{repeated}
 use Rattle.span_pool.specs.Stored.{StoredData}
-use Rattle.span_batcher.proofs.encode.put_spans.Given as goal
+use Rattle.span_batcher.proofs.block.put_spans.Given as goal
 
 -- what is written and what is left give the whole
 abbrev pub invariant-loop-span : goal.invariant-loop-span

@@ -1,0 +1,15 @@
+use Rattle.std.proofs.Common.{◌≡◌, ◌+◌, ◌^◌, ◌<◌, ◌≤◌, ◌-◌, length, drop}
+use Rattle.span_batcher.specs.ExportText.{same_scope, scope_spans_field}
+use Rattle.span_batcher.specs.Blocks.{fields_in, capped}
+use Rattle.span_batcher.proofs.encode.scopes_size.Given as goal
+
+-- what is counted and what is left give the whole
+abbrev pub invariant-loop-start : goal.invariant-loop-start
+invariant-loop-start l = record {
+  within : l.start ≤ length l.blocks;
+  fits : l.size < 2 ^ 64;
+  whole : capped (l.size + length (fields_in l.texts same_scope scope_spans_field (drop l.start l.blocks))) ≡ capped (length (fields_in l.texts same_scope scope_spans_field l.blocks));
+}
+
+abbrev pub decreases-loop-start : goal.decreases-loop-start
+decreases-loop-start l = length l.blocks - l.start
