@@ -319,9 +319,9 @@ fn sorted_copy(alloc: Global, text: &[u8], room: u32) -> Result<Option<Vec<u8>>,
 }
 
 /// A span's canonical text, where the given text is that but for the order of its fields, for fields of one value that
-/// stand twice, for defaults that are written out, and for the spelling of messages inside the span; with room for so
-/// many levels, as in `is_span_text`. Else none, and nothing is said of the text. A text that is canonical already may
-/// have none, or a copy.
+/// stand twice, for statuses that do, for defaults that are written out, and for the spelling of messages inside the
+/// span; with room for so many levels, as in `is_span_text`. Else none, and nothing is said of the text. A text that is
+/// canonical already may have none, or a copy.
 ///
 /// The text may have some bytes of room more than it takes: at most 38 for each default, and 18 for each length.
 pub fn in_order(alloc: Global, text: &[u8], room: u32) -> Result<Option<Vec<u8>>, AllocError>
