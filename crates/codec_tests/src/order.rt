@@ -116,10 +116,26 @@ a_full_status_and_an_empty_one 7a0512016d18027a00 7a0512016d1802\n\
 a_status_and_a_long_one 7a0312016d7a828080001802 7a0512016d1802\n\
 not_known_in_two_statuses 7a05200112016d7a0428021802 7a0912016d180220012802\n\
 statuses_in_reverse_among_others 7a05180212016d4a030a016b7a0312016e0a0131 0a01314a030a016b7a0512016e1802\n\
+a_code_in_each_status 7a0218017a021802 7a021802\n\
+a_message_and_a_code_in_each_status 7a0512016d18017a0512016e1802 7a0512016e1802\n\
+a_code_before_a_message_in_each_status 7a05180112016d7a05180212016e 7a0512016e1802\n\
+letters_of_two_bytes_and_a_code 7a041202c3a97a021802 7a061202c3a91802\n\
+not_known_in_one_status 7a05200112016d7a0512016e1802 7a0712016e18022001\n\
+a_code_of_another_type_in_one_status 7a051d010000007a021802 7a0718021d01000000\n\
+a_code_of_more_bits_in_the_last_status 7a0218017a06188280808010 7a021802\n\
+a_code_in_more_bytes_in_the_last_status 7a0218017a03188200 7a021802\n\
+a_code_below_none_in_the_last_status 7a0218017a0b18ffffffffffffffffff01 7a0b18ffffffffffffffffff01\n\
+# The last message wins, an empty one too, which isn't written then.\n\
+a_message_and_an_empty_one 7a0312016d7a021200 7a00\n\
+a_message_with_a_code_and_an_empty_one 7a0512016d18027a021200 7a021802\n\
+an_empty_message_and_a_message 7a0212007a0312016d 7a0312016d\n\
+# None is found where one of them is no fields or no text.\n\
 a_status_of_no_fields_and_one 7a01127a021802 none\n\
 a_status_and_one_that_is_cut 7a0218027a0312026d none\n\
 two_statuses_that_are_a_field_together 7a0212027a026d6e none\n\
 a_message_that_is_no_text_in_the_first_status 7a031201ff7a0312016d none\n\
+a_message_that_is_no_text_in_the_last_status 7a0312016d7a031201ff none\n\
+a_letter_cut_between_two_statuses 7a031201c37a031201a9 none\n\
 a_field_of_another_type_at_a_status 78017a0218027a0312016d 7a0512016d18027801\n\
 # These aren't fields.\n\
 cut 2a016e0a013130 none\n\
