@@ -44,3 +44,12 @@ turn 1500 = job b 1 11.21+11.22
 turn 2000 = job a 1 11.21+11.22+12.23
 post a 2000 13.25+14.26+14.27+14.28 = reply a 200 0a260801122272656a65637465643a203020696e76616c69642c2031206f76657220627564676574
 report a 2000 = report a accepted=6 undecided=3 active=3 invalid=1 over_budget=2
+
+# Rows leave within a post too: that of 11 for 13, and that of 12 for 11, which has another row then.
+story rows_leave_within_a_post: TWO_TRACES
+post a 0 11.21+11.22+12.23+13.24/11.25+11.26 = reply a 200 -
+report a 0 = report a accepted=6 undecided=3 too_early=3
+turn 1000 = job a 1 13.24
+answer a 1000 1 0 200 - - = done a
+turn 1000 = job a 2 11.25+11.26
+report a 1000 = report a accepted=6 active=2 exported=1 too_early=3

@@ -56,3 +56,23 @@ post a 1 11.23.39c0e1e4000000000041c0e1e40000000000 = reply a 200 -
 post a 1 12.24.39bfe1e4000000000041bfe1e40000000000 = reply a 200 -
 turn 1000 = job a 1 11.21.398096980000000000418096980000000000+11.23.39c0e1e4000000000041c0e1e40000000000
 report a 1000 = report a accepted=4 active=2 not_sampled=2
+
+# Spans of one post join each their own trace's row, however traces alternate, and are noted there: 11 has its error and
+# its attribute in spans that are parted by one of 12, which has an error alone, 13 has them in two that follow each other.
+story spans_of_a_post_join_the_rows_of_their_traces: BOTH
+post a 0 11.21.7a021802+11.22+12.23.7a021802/11.24.4a080a016b12030a0176+12.25/13.26.7a021802+13.27.4a080a016b12030a0176+13.28 = reply a 200 -
+turn 1000 = job a 1 11.21.7a021802+11.22+11.24.4a080a016b12030a0176
+turn 1000 = job a 2 13.26.7a021802+13.27.4a080a016b12030a0176+13.28
+turn 1000 = idle
+report a 1000 = report a accepted=8 active=6 not_sampled=2
+
+# Spans of one post that come late leave alone, and those that come before and after them wait together.
+story late_spans_leave_between_others: TEN_SENT
+post a 0 11.21 = reply a 200 -
+post a 400 12.22 = reply a 200 -
+turn 1000 = job a 1 11.21
+post a 1000 12.23+11.24+11.25+12.26 = reply a 200 -
+turn 1000 = job a 2 11.24
+turn 1000 = job a 3 11.25
+turn 1399 = idle
+turn 1400 = job a 4 12.22+12.23+12.26

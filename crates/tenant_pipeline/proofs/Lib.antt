@@ -28,6 +28,7 @@ pub mod Counting
 pub mod TraceStates
 pub mod Placing
 pub mod Joins
+pub mod Lasts
 pub mod Opens
 pub mod Late
 pub mod Hits

@@ -8,6 +8,7 @@ use Rattle.span_pool.specs.Stored.{OwnedKeys, origin_at}
 use Rattle.span_pool.specs.declared.keys.TextKeys.{TextKeys}
 use Rattle.tail_policy.specs.declared.note.TraceNote.{TraceNote}
 use Rattle.tail_policy.specs.Note.{note_of}
+use Rattle.trace_rows.specs.declared.table.Row.{Row}
 use Rattle.trace_rows.specs.Part.{keys_of}
 use Rattle.tenant_stores.specs.declared.stores.Stores.{Stores}
 use Rattle.tenant_stores.specs.Part.{Part}
@@ -21,6 +22,7 @@ use Rattle.tenant_rules.specs.Machine.{all_come, cached_or_opens, counted_in, ha
 use Rattle.tenant_rules.specs.Intake.{Verdict, verdict_of}
 use Rattle.tenant_pipeline.specs.declared.pipeline.Pipeline.{Pipeline}
 use Rattle.tenant_pipeline.specs.declared.journal.Journal.{Journal}
+use Rattle.tenant_pipeline.specs.declared.place.LastRow.{LastRow}
 use Rattle.tenant_pipeline.specs.declared.place.TraceState.{TraceState}
 use Rattle.tenant_pipeline.specs.declared.place.TraceState.TheVariants as states
 use Rattle.tenant_pipeline.specs.declared.post.HeldOrigins.{HeldOrigins}
@@ -138,6 +140,17 @@ IsTraceStateAt trace states.Nowhere own p = Unit
 IsTraceStateAt trace (states.Cached sampled) own p = Unit
 IsTraceStateAt trace (states.Decided sampled) own p = Unit
 IsTraceStateAt trace (states.Waits number) own p = (p.latest_rows trace ≡ Some number) × (own.rows.decided < number)
+
+-- the note of a row, where there is one
+abbrev pub note_in : Option (Row TraceNote) → Option TraceNote
+note_in None = None
+note_in (Some row) = Some row.note
+
+-- the row of the last span, where one is known, is its trace's latest one, waits, and has this note
+abbrev pub IsLast : Option LastRow → Pipeline → Part TraceNote → Type 0
+IsLast None own p = Unit
+IsLast (Some last) own p = (p.latest_rows last.trace ≡ Some last.number) × (own.rows.decided < last.number)
+    × (note_in (p.rows last.number) ≡ Some last.note)
 
 -- ---- all spans of a body
 

@@ -13,7 +13,8 @@ ghost use Rattle.tenant_rules.specs.Timers.{grouped};
 ghost use Rattle.decision_cache.specs.Caches.{found, shown};
 ghost use Rattle.tenant_pipeline.specs.StateIn.{counts_in, part_in, written_state_in};
 ghost use Rattle.tenant_pipeline.specs.Invariant.{PipelineInvariantAt};
-ghost use Rattle.tenant_pipeline.specs.Posts.{arrival_at, CameIn, CameUnsampled, IsComing, IsSameTenant, IsTraceState, IsTraceStateAt, StaysWritten, StaysWrittenAnywhere};
+ghost use Rattle.tenant_pipeline.specs.Posts.{arrival_at, CameIn, CameUnsampled, IsComing, IsLast, IsSameTenant, IsTraceState, IsTraceStateAt, StaysWritten, StaysWrittenAnywhere};
+ghost use Rattle.tenant_pipeline.specs.Posts.{note_in};
 ghost use Rattle.tenant_pipeline.specs.Posts.{first_left, ledger_left, state_by_cache};
 ghost use Rattle.tenant_stores.specs.Promises.{OthersUnchanged, TextsStay, WhereInHand, ShowsSameInHand};
 ghost use Rattle.tenant_stores.specs.HeldTexts.{origin_in};
@@ -40,6 +41,18 @@ pub enum TraceState {
     Waits(u64),
 }
 
+/// The row that a post's last span joined or opened, which waits. Where the next one is of the same trace, neither the
+/// trace nor the row's note has to be looked up.
+#[derive(Clone, Copy, Debug, PartialEq, Eq)]
+pub struct LastRow {
+    /// Its trace.
+    trace: [u8; 16],
+    /// Its number.
+    number: u64,
+    /// Its note, with that span.
+    note: TraceNote,
+}
+
 impl Pipeline {
     /// Where a trace has its latest row.
     pub(crate) fn trace_state(&self, stores: &Stores<TraceNote>, trace: [u8; 16]) -> TraceState
@@ -61,6 +74,46 @@ impl Pipeline {
             Some(row) => TraceState::Decided(row.sampled),
             None => unreachable!(),
         }
+    }
+
+    /// Where a trace has its latest row, which may be the last span's.
+    fn known_state(
+        &self,
+        stores: &Stores<TraceNote>,
+        last: Option<LastRow>,
+        trace: [u8; 16],
+    ) -> TraceState
+        requires invariant { (reached : ℕ) × (gone held : List ℕ)
+            × PipelineInvariantAt reached gone held self.now (part_in self.now stores.now) }
+        requires last { IsLast last self.now (part_in self.now stores.now) }
+        ensures state { IsTraceState trace result (written_state_in self.now stores.now) }
+        ensures number { IsTraceStateAt trace result self.now (part_in self.now stores.now) }
+    {
+        if let Some(row) = last {
+            let known = row.trace;
+            if known == trace {
+                return TraceState::Waits(row.number);
+            }
+        }
+        self.trace_state(stores, trace)
+    }
+
+    /// The note of the row of this number, which may be the last span's.
+    fn known_note(
+        &self,
+        stores: &Stores<TraceNote>,
+        last: Option<LastRow>,
+        number: u64,
+    ) -> Option<TraceNote>
+        requires last { IsLast last self.now (part_in self.now stores.now) }
+        ensures { result ≡ note_in ((part_in self.now stores.now).rows number) }
+    {
+        if let Some(row) = last {
+            if row.number == number {
+                return Some(row.note);
+            }
+        }
+        Some(stores.row(self.tenant, number)?.note)
     }
 
     /// Where a trace is that has no row that is present.
@@ -89,6 +142,7 @@ impl Pipeline {
         &mut self,
         stores: &mut Stores<TraceNote>,
         journal: &mut Journal,
+        last: &mut Option<LastRow>,
         moment: u64,
         keys: &SharedKeys,
         span: &NotedSpan,
@@ -97,9 +151,11 @@ impl Pipeline {
             × IsComing moment journal.old keys.now.keys span.now held self.old
             (part_in self.old stores.old) }
         requires fits { counted self.old.ledger + 1 ≤ most_counted }
+        requires last { IsLast last.old self.old (part_in self.old stores.old) }
         ensures came { OnOk result (CameIn
             (come moment (arrival_at (part_in self.old stores.old) keys.now.keys span.now.text))
             moment journal.old journal.new self.old self.new stores.old stores.new) }
+        ensures last { OnOk result (IsLast last.new self.new (part_in self.new stores.new)) }
 
         // It can be taken back, on success and where memory is refused.
         ensures written { StaysWritten journal.old journal.new self.old self.new stores.old
@@ -111,15 +167,24 @@ impl Pipeline {
             return Ok(());
         }
         journal.placed.reserve(1)?;
-        match self.trace_state(stores, span.trace) {
-            TraceState::Waits(number) => self.join(stores, journal, number, moment, keys, span),
-            TraceState::Decided(true) => self.admit_late(stores, journal, moment, keys, span),
+        match self.known_state(stores, *last, span.trace) {
+            TraceState::Waits(number) => {
+                self.join(stores, journal, last, number, moment, keys, span)
+            }
+            TraceState::Decided(true) => {
+                *last = None;
+                self.admit_late(stores, journal, moment, keys, span)
+            }
             TraceState::Decided(false) => {
+                *last = None;
                 self.count_unsampled();
                 Ok(())
             }
-            TraceState::Cached(sampled) => self.hit(stores, journal, moment, keys, span, sampled),
-            TraceState::Nowhere => self.open(stores, journal, moment, keys, span),
+            TraceState::Cached(sampled) => {
+                *last = None;
+                self.hit(stores, journal, moment, keys, span, sampled)
+            }
+            TraceState::Nowhere => self.open(stores, journal, last, moment, keys, span),
         }
     }
 
@@ -191,6 +256,7 @@ impl Pipeline {
         &mut self,
         stores: &mut Stores<TraceNote>,
         journal: &mut Journal,
+        last: &mut Option<LastRow>,
         number: u64,
         moment: u64,
         keys: &SharedKeys,
@@ -203,6 +269,7 @@ impl Pipeline {
         requires latest_row { (part_in self.old stores.old).latest_rows span.now.trace ≡ Some
             number }
         requires waits { self.old.rows.decided < number }
+        requires last { IsLast last.old self.old (part_in self.old stores.old) }
         requires budget { self.old.ledger.places.undecided + self.old.ledger.places.pending
             < self.old.section.max_spans }
         requires room { vec_len journal.old.placed < vec_capacity journal.old.placed }
@@ -210,15 +277,16 @@ impl Pipeline {
             (λ s. joins (arrival_at (part_in self.old stores.old) keys.now.keys span.now.text)
             (counted_in s)) moment journal.old journal.new self.old self.new stores.old
             stores.new) }
+        ensures last { OnOk result (IsLast last.new self.new (part_in self.new stores.new)) }
         ensures written { StaysWritten journal.old journal.new self.old self.new stores.old
             stores.new }
         ensures others_unchanged { OthersUnchanged self.old.tenant stores.old stores.new }
         ensures same { IsSameTenant self.old self.new }
     {
-        let Some(row) = stores.row(self.tenant, number) else {
+        let Some(former) = self.known_note(stores, *last, number) else {
             unreachable!()
         };
-        let note = row.note.joined(span.note);
+        let note = former.joined(span.note);
         let keyed = self.keyed(stores, keys, span)?;
         let held = keyed.keys();
         match stores.join(number, keyed, note) {
@@ -227,6 +295,12 @@ impl Pipeline {
                 journal
                     .placed
                     .push_reserved(UndoEntry::Joined(number, joining.former));
+                let trace = span.trace;
+                *last = Some(LastRow {
+                    trace,
+                    number,
+                    note,
+                });
                 Ok(())
             }
             Err(refused) => {
@@ -284,6 +358,7 @@ impl Pipeline {
         &mut self,
         stores: &mut Stores<TraceNote>,
         journal: &mut Journal,
+        last: &mut Option<LastRow>,
         moment: u64,
         keys: &SharedKeys,
         span: &NotedSpan,
@@ -299,6 +374,7 @@ impl Pipeline {
             (λ s. opens moment (arrival_at (part_in self.old stores.old) keys.now.keys
             span.now.text) (evicted (counted_in s))) moment journal.old journal.new self.old
             self.new stores.old stores.new) }
+        ensures last { OnOk result (IsLast last.new self.new (part_in self.new stores.new)) }
         ensures written { StaysWritten journal.old journal.new self.old self.new stores.old
             stores.new }
         ensures others_unchanged { OthersUnchanged self.old.tenant stores.old stores.new }
@@ -316,6 +392,12 @@ impl Pipeline {
                 journal
                     .placed
                     .push_reserved(UndoEntry::Opened(number, opening.key, opening.earlier));
+                let trace = span.trace;
+                *last = Some(LastRow {
+                    trace,
+                    number,
+                    note: span.note,
+                });
                 Ok(())
             }
             Err(refused) => {

@@ -16,14 +16,14 @@ ghost use Rattle.otlp_prepare.specs.Prepared.{AreReady};
 ghost use Rattle.tenant_pipeline.specs.Prepared.{arrivals_of};
 ghost use Rattle.tenant_pipeline.specs.StateIn.{part_in, policies_of, written_state_in};
 ghost use Rattle.tenant_pipeline.specs.Invariant.{PipelineInvariantAt, IsSwept};
-ghost use Rattle.tenant_pipeline.specs.Posts.{all_keys, all_text_keys, held_keys, keys_at, place_of, AreHeldAt, CameNext, HoldsMore, IsFull, IsNext, IsPosting, IsTaken, IsSameTenant, StaysWrittenWith, verdict_after};
+ghost use Rattle.tenant_pipeline.specs.Posts.{all_keys, all_text_keys, held_keys, keys_at, place_of, AreHeldAt, CameNext, HoldsMore, IsFull, IsLast, IsNext, IsPosting, IsTaken, IsSameTenant, StaysWrittenWith, verdict_after};
 ghost use Rattle.tenant_pipeline.specs.Acts.{ActsAt, IsPosted, at};
 ghost use Rattle.tenant_stores.specs.Promises.{OthersUnchanged, TextsStay, WhereSound, WhereHeld, ShowsSame, ShowsSameHeld};
 ghost use Rattle.tenant_stores.specs.HeldTexts.{origin_in};
 
 use crate::journal::Journal;
 use crate::pipeline::Pipeline;
-use crate::place::TraceState;
+use crate::place::{LastRow, TraceState};
 use crate::reply::{refusal, success};
 use otlp_prepare::{NotedSpan, Prepared, SpanOrigin};
 use span_pool::SharedKeys;
@@ -287,8 +287,9 @@ impl Pipeline {
         ensures same { IsSameTenant self.old self.new }
     {
         let before = self.ledger.accepted();
+        let mut last = None;
         for span in spans {
-            self.admit_held(stores, journal, moment, origins, held, span)?;
+            self.admit_held(stores, journal, &mut last, moment, origins, held, span)?;
         }
         let taken = self.ledger.accepted() - before;
         let reply = self.reply(spans.len() as u64, taken, invalid)?;
@@ -301,6 +302,7 @@ impl Pipeline {
         &mut self,
         stores: &mut Stores<TraceNote>,
         journal: &mut Journal,
+        last: &mut Option<LastRow>,
         moment: u64,
         origins: &[SpanOrigin],
         held: &mut HeldOrigins,
@@ -309,9 +311,11 @@ impl Pipeline {
         requires next { IsNext moment journal.old origins.now held.old span.now self.old
             (part_in self.old stores.old) }
         requires fits { counted self.old.ledger + 1 ≤ most_counted }
+        requires last { IsLast last.old self.old (part_in self.old stores.old) }
         ensures came { OnOk result (CameNext (come moment (arrival_in origins.now span.now)) moment
             journal.new origins.now held.new self.old self.new (part_in self.old stores.old)
             (part_in self.new stores.new)) }
+        ensures last { OnOk result (IsLast last.new self.new (part_in self.new stores.new)) }
         ensures full { IsFull (written_state_in self.old stores.old) → (held.new ≡ held.old)
             × (part self.old.tenant stores.new ≡ part self.old.tenant stores.old) }
         ensures written { StaysWrittenWith held.old held.new journal.old journal.new self.old
@@ -323,15 +327,19 @@ impl Pipeline {
             return Ok(());
         }
         if held.has(span.origin) {
-            return self.admit_with_texts(stores, journal, moment, origins, held, span);
+            return self.admit_with_texts(stores, journal, last, moment, origins, held, span);
         }
         match self.trace_state(stores, span.trace) {
             TraceState::Decided(false) => {
+                *last = None;
                 self.count_unsampled();
                 Ok(())
             }
-            TraceState::Cached(false) => self.hit_unsampled(span.trace),
-            _ => self.admit_with_texts(stores, journal, moment, origins, held, span),
+            TraceState::Cached(false) => {
+                *last = None;
+                self.hit_unsampled(span.trace)
+            }
+            _ => self.admit_with_texts(stores, journal, last, moment, origins, held, span),
         }
     }
 
@@ -341,6 +349,7 @@ impl Pipeline {
         &mut self,
         stores: &mut Stores<TraceNote>,
         journal: &mut Journal,
+        last: &mut Option<LastRow>,
         moment: u64,
         origins: &[SpanOrigin],
         held: &mut HeldOrigins,
@@ -349,16 +358,18 @@ impl Pipeline {
         requires next { IsNext moment journal.old origins.now held.old span.now self.old
             (part_in self.old stores.old) }
         requires fits { counted self.old.ledger + 1 ≤ most_counted }
+        requires last { IsLast last.old self.old (part_in self.old stores.old) }
         ensures came { OnOk result (CameNext (come moment (arrival_in origins.now span.now)) moment
             journal.new origins.now held.new self.old self.new (part_in self.old stores.old)
             (part_in self.new stores.new)) }
+        ensures last { OnOk result (IsLast last.new self.new (part_in self.new stores.new)) }
         ensures written { StaysWrittenWith held.old held.new journal.old journal.new self.old
             self.new stores.old stores.new }
         ensures others_unchanged { OthersUnchanged self.old.tenant stores.old stores.new }
         ensures same { IsSameTenant self.old self.new }
     {
         let place = held.hold(self.alloc, stores, self.tenant, origins, span.origin)?;
-        self.admit(stores, journal, moment, &held.keys[place], span)
+        self.admit(stores, journal, last, moment, &held.keys[place], span)
     }
 
     /// The reply to a body with so many valid spans, of which so many were taken, and so many others. What was left out

@@ -13,6 +13,7 @@ use Rattle.tenant_pipeline.proofs.pipeline.Pipeline.admit_all.Goals as goal
 pub loop-span-init : goal.loop-span-init
 loop-span-init c = record {
   placing = none_placed c.args.moment c.args.origins.now c.args.spans.now c.args.held.now c.args.journal.now c.args.self.now (part_in c.args.self.now c.args.stores.now) c.requires.posting c.requires.origins;
+  last = tt;
   others = λ other ne. refl;
 }
 
@@ -40,6 +41,7 @@ loop-span-preserved c =
       placing = one_placed c.args.moment c.args.origins.now c.args.spans.now c.loop-span.span-index c.args.held.now c.loop-span.held c.args.journal.now c.loop-span.journal c.args.self.now c.loop-span.self
           (part_in c.args.self.now c.args.stores.now) (part_in c.loop-span.self c.loop-span.stores) now c.loop-span-test.true c.span-item.result c.span-item.is
           c.admit_held.new.held c.admit_held.new.journal c.admit_held.new.self (part_in c.admit_held.new.self c.admit_held.new.stores) made.came made.written made.same;
+      last = made.last;
       others = λ other ne. made.others_unchanged other (λ e. ne (e ∙ now.same.tenant)) ∙ c.loop-span.invariant.others other ne;
     }
 

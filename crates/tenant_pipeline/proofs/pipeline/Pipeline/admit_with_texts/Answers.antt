@@ -1,8 +1,10 @@
-use Rattle.std.proofs.Common.{◌++◌}
+use Rattle.std.proofs.Common.{◌++◌, ℕ, List, [], append-nil, subst, sym}
 use Rattle.std.proofs.lemmas.Result.{on_ok_weaker}
+use Rattle.tenant_stores.specs.Invariant.{StoreInvariant}
 use Rattle.tenant_pipeline.specs.Posts.{held_keys}
 use Rattle.tenant_pipeline.specs.StateIn.{counts_in, part_in}
 use Rattle.tenant_pipeline.proofs.Holds.{came_held, is_coming_held, written_kept, written_more, written_on}
+use Rattle.tenant_pipeline.proofs.Lasts.{last_held}
 use Rattle.tenant_pipeline.proofs.pipeline.Pipeline.admit_with_texts.Goals as goal
 
 pub returns-in_err-place-clause-written : goal.returns-in_err-place-clause-written
@@ -21,6 +23,15 @@ admit-requires-clause-coming c =
       is_coming_held c.args.moment c.args.journal.now c.args.origins.now c.args.held.now c.hold.new.self c.args.span.now own (part_in own c.args.stores.now) (part_in own c.hold.new.stores) c.requires.next
           made.uses_added made.store_invariant made.shows c.in_ok-place.place c.index.result.now made.place c.index.ensures made.origin made.origins,
     )
+
+pub admit-requires-clause-last : goal.admit-requires-clause-last
+admit-requires-clause-last c =
+    let own = c.args.self.now in
+    let p = part_in own c.args.stores.now in
+    let pending = c.args.journal.now.undo.gone.items ++ own.batcher.spans in
+    let sound = subst (λ (ks : List ℕ). StoreInvariant (counts_in own) pending ks p) (sym (append-nil (held_keys c.args.held.now))) c.requires.next.posting.holds.sound in
+    let more = c.in_ok-place.ensures.uses_added (counts_in own) pending [] sound in
+    last_held c.args.last.now own more.more p (part_in own c.hold.new.stores) more.holds c.requires.last
 
 pub returns-clause-came : goal.returns-clause-came
 returns-clause-came c =

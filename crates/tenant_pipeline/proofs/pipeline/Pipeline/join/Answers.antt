@@ -3,6 +3,7 @@ use Rattle.drop_ledger.specs.Ledger.{LedgerData}
 use Rattle.span_pool.specs.Stored.{texts_of}
 use Rattle.span_pool.specs.declared.keys.TextKeys.{TextKeys}
 use Rattle.tail_policy.specs.declared.note.TraceNote.{TraceNote}
+use Rattle.tail_policy.specs.Note as notes
 use Rattle.trace_rows.specs.declared.table.Row.{Row}
 use Rattle.trace_rows.specs.Part as rows
 use Rattle.tenant_stores.specs.declared.undo.UndoEntry.{UndoEntry}
@@ -20,9 +21,10 @@ use Rattle.tenant_rules.specs.State.{State}
 use Rattle.tenant_pipeline.specs.declared.pipeline.Pipeline.{Pipeline}
 use Rattle.tenant_pipeline.specs.declared.journal.Journal.{Journal}
 use Rattle.tenant_pipeline.specs.StateIn.{counts_in}
-use Rattle.tenant_pipeline.specs.Posts.{arrival_at, Came, IsWritten}
+use Rattle.tenant_pipeline.specs.Posts.{arrival_at, note_in, Came, IsWritten}
 use Rattle.tenant_pipeline.specs.Undo.{hits_undone}
 use Rattle.tenant_pipeline.proofs.Joins.{join_came}
+use Rattle.tenant_pipeline.proofs.Lasts.{joined_last}
 use Rattle.tenant_pipeline.proofs.Placing.{IsKeyed, IsReady, given_back, ready_now, takes_back, trail_more}
 use Rattle.tenant_pipeline.proofs.pipeline.Pipeline.join.Goals as goal
 
@@ -32,7 +34,7 @@ unreachable-requires c =
     let p = part own.tenant c.args.stores.now in
     let coming = c.requires.coming in
     let shows = (seat_shows (counts_in own) (c.args.journal.now.undo.gone.items ++ own.batcher.spans) coming.0 p c.args.span.now.trace coming.1.posting.holds.sound).waits c.args.number c.requires.latest_row c.requires.waits in
-    let clash : Path (Option (Row TraceNote)) None (Some shows.row) = c.in_default.ensures ∙ shows.there in
+    let clash : Path (Option TraceNote) None (Some shows.row.note) = c.in_default.ensures ∙ ap note_in shows.there in
     absurd (cc)
 
 pub returns-in_err-keyed-clause-written : goal.returns-in_err-keyed-clause-written
@@ -64,9 +66,28 @@ returns-in-Ok-clause-came c =
     let shows = subst (λ (u : ℕ). (n : Counts) (pending others shown trace : List ℕ) → StoreInvariant n pending others (part u S1) → AreAmong shown pending → (part u S1).latest_rows trace ≡ Some c.args.number → n.decided < c.args.number →
     view n shown (part u S2) ≡ with_joined trace (texts_of (text_at (part u S1).texts) k) note (view n shown (part u S1))) e.owner c.in-Ok.ensures.shows in
     let journal' : Journal = record { placed = c.push_reserved.new.self; undo = journal.undo; hits = journal.hits } in
-    let came = join_came own p mid q c.args.moment journal c.args.keys.now.keys span coming.0 coming.1 k ready c.args.number c.in-Ok.joining.key note c.in-Some.row.now
-    c.requires.latest_row c.requires.waits (sym c.in-Some.ensures) c.joined-note.ensures change sound shows c.requires.fits c.requires.budget journal' refl in
+    let seated = (seat_shows (counts_in own) (journal.undo.gone.items ++ own.batcher.spans) coming.0 p c.args.span.now.trace coming.1.posting.holds.sound).waits c.args.number c.requires.latest_row c.requires.waits in
+    let noted : Path (Option TraceNote) (Some c.in-Some.former) (Some seated.row.note) = c.in-Some.ensures ∙ ap note_in seated.there in
+    let former : c.in-Some.former ≡ seated.row.note = cc in
+    let came = join_came own p mid q c.args.moment journal c.args.keys.now.keys span coming.0 coming.1 k ready c.args.number c.in-Ok.joining.key note seated.row
+    c.requires.latest_row c.requires.waits seated.there (c.joined-note.ensures ∙ ap (λ (n : TraceNote). notes.joined n span.note) former) change sound shows c.requires.fits c.requires.budget journal' refl in
     subst (λ (l : LedgerData). let o : Pipeline = record own { ledger = l } in Came (λ (s : State). joins (arrival_at p c.args.keys.now.keys span.text) (counted_in s)) c.args.moment journal journal' own o p q) (sym c.take.ensures) came
+
+pub returns-in-Ok-clause-last : goal.returns-in-Ok-clause-last
+returns-in-Ok-clause-last c =
+    let own = c.args.self.now in
+    let t = own.tenant in
+    let p = part t c.args.stores.now in
+    let S1 = c.keyed.new.stores in
+    let S2 = c.join.new.self in
+    let coming = c.requires.coming in
+    let k = c.in_ok-keyed.keyed in
+    let e = c.in_ok-keyed.ensures in
+    let seated = (seat_shows (counts_in own) (c.args.journal.now.undo.gone.items ++ own.batcher.spans) coming.0 p c.args.span.now.trace coming.1.posting.holds.sound).waits c.args.number c.requires.latest_row c.requires.waits in
+    let note = c.joined-note.result in
+    let holds = e.uses_added (counts_in own) (c.args.journal.now.undo.gone.items ++ own.batcher.spans) coming.0 coming.1.among coming.1.posting.holds.sound in
+    let change = subst (λ (u : ℕ). Joins c.args.number c.in-Ok.joining.key k note (part u S1) (part u S2)) e.owner c.in-Ok.ensures.own_part in
+    joined_last own (text_keys k.keys) p (part t S1) (part t S2) c.args.span.now.trace c.args.number c.in-Ok.joining.key k note seated.row c.requires.latest_row c.requires.waits seated.there holds change
 
 pub returns-in-Ok-clause-written : goal.returns-in-Ok-clause-written
 returns-in-Ok-clause-written c = λ start first written.
@@ -81,8 +102,9 @@ returns-in-Ok-clause-written c = λ start first written.
     let k = c.in_ok-keyed.keyed in
     let e = c.in_ok-keyed.ensures in
     let note = c.joined-note.result in
-    let row = c.in-Some.row.now in
-    let there : p.rows c.args.number ≡ Some row = sym c.in-Some.ensures in
+    let seated = (seat_shows (counts_in own) (c.args.journal.now.undo.gone.items ++ own.batcher.spans) coming.0 p c.args.span.now.trace coming.1.posting.holds.sound).waits c.args.number c.requires.latest_row c.requires.waits in
+    let row = seated.row in
+    let there : p.rows c.args.number ≡ Some row = seated.there in
     let holds = e.uses_added (counts_in own) (c.args.journal.now.undo.gone.items ++ own.batcher.spans) coming.0 coming.1.among coming.1.posting.holds.sound in
     let change = subst (λ (u : ℕ). Joins c.args.number c.in-Ok.joining.key k note (part u S1) (part u S2)) e.owner c.in-Ok.ensures.own_part in
     let former : c.in-Ok.joining.former ≡ row.note =

@@ -1,4 +1,4 @@
-use Rattle.std.proofs.Common.{◌≡◌, ◌+◌, ◌++◌, ◌∙◌, ℕ, List, refl, sym, ap, subst, arith, Option}
+use Rattle.std.proofs.Common.{◌≡◌, ◌+◌, ◌++◌, ◌∙◌, ℕ, List, refl, sym, ap, subst, arith, Option, Some}
 use Rattle.span_pool.specs.Stored.{texts_of}
 use Rattle.span_pool.specs.declared.keys.TextKeys.{TextKeys}
 use Rattle.tail_policy.specs.declared.note.TraceNote.{TraceNote}
@@ -16,8 +16,9 @@ use Rattle.tenant_rules.specs.State.{State}
 use Rattle.tenant_pipeline.specs.declared.pipeline.Pipeline.{Pipeline}
 use Rattle.tenant_pipeline.specs.declared.journal.Journal.{Journal}
 use Rattle.tenant_pipeline.specs.StateIn.{counts_in, part_in}
-use Rattle.tenant_pipeline.specs.Posts.{arrival_at, Came, IsWritten}
+use Rattle.tenant_pipeline.specs.Posts.{arrival_at, Came, IsLast, IsWritten}
 use Rattle.tenant_pipeline.specs.Undo.{hits_undone}
+use Rattle.tenant_pipeline.proofs.Lasts.{opened_last}
 use Rattle.tenant_pipeline.proofs.Opens.{leaves_few, open_came, opened_is, opened_own}
 use Rattle.tenant_pipeline.proofs.Placing.{IsKeyed, IsReady, given_back, ready_now, takes_back, trail_more}
 use Rattle.tenant_pipeline.proofs.pipeline.Pipeline.open.Goals as goal
@@ -82,6 +83,27 @@ returns-in-Ok-clause-came c =
     (ap (λ (n : ℕ). n + 1) opened) due_is change sound shows c.requires.fits c.requires.budget journal' refl in
     let is = opened_is own mid made c.take.new.self c.make_room.ensures.rows c.make_room.ensures.ledger c.make_room.ensures.same c.take.ensures in
     subst (λ (o : Pipeline). Came (λ (s : State). opens c.args.moment (arrival_at p c.args.keys.now.keys span.text) (evicted (counted_in s))) c.args.moment journal journal' own o p (part_in o S2)) (sym is) came
+
+pub returns-in-Ok-clause-last : goal.returns-in-Ok-clause-last
+returns-in-Ok-clause-last c =
+    let own = c.args.self.now in
+    let made = c.make_room.new.self in
+    let t = own.tenant in
+    let S1 = c.keyed.new.stores in
+    let S2 = c.open.new.self in
+    let span = c.args.span.now in
+    let k = c.in_ok-keyed.keyed in
+    let e = c.in_ok-keyed.ensures in
+    let number = made.rows.opened + 1 in
+    let due = c.args.moment + made.section.tail_sampling.decision_wait in
+    let opened : made.rows.opened ≡ own.rows.opened = ap (λ (n : Counts). n.opened) c.make_room.ensures.rows in
+    let change = subst (λ (u : ℕ). Opens number c.in-Ok.opening.key due span.trace k span.note (part u S1) (part u S2)) e.owner c.in-Ok.ensures.own_part in
+    let now : Pipeline = record made { rows = record made.rows { opened = number }; ledger = c.take.new.self } in
+    let last = opened_last now (part t S1) (part t S2) span.trace number c.in-Ok.opening.key due k span.note (let decided = ap (λ (n : Counts). n.decided) c.make_room.ensures.rows in
+    let few = c.requires.coming.1.posting.holds.sound.order.decided in
+    let some = own.section.tail_sampling.num_traces_range in
+    omega (arith, opened, decided, few, some.0)) change in
+    subst (λ (u : ℕ). IsLast (Some (record { trace = span.trace; number = number; note = span.note })) now (part u S2)) (sym (ap (λ (o : Pipeline). o.tenant) c.make_room.ensures.same)) last
 
 pub returns-in-Ok-clause-written : goal.returns-in-Ok-clause-written
 returns-in-Ok-clause-written c = λ start first written.
