@@ -1,13 +1,14 @@
--- An event, a link or a status of a span that is read and written.
-use Rattle.std.proofs.Common.{◌≡◌, ℕ, ◌-◌, ◌<◌, ◌^◌, List, [], ◌∷◌, ◌++◌, length, Some, Result, Ok, sym, ap, subst, ◌∙◌, append-nil, length-append, arith}
+-- An attribute, an event, a link or a status of a span that is read and written.
+use Rattle.std.proofs.Common.{◌≡◌, ℕ, ◌-◌, ◌<◌, ◌==◌, ◌^◌, List, [], ◌∷◌, ◌++◌, length, Some, Result, Ok, sym, ap, subst, ◌∙◌, append-nil, length-append, refl, arith}
 use Rattle.pb_wire.specs.Grammar.{Entry, IsField}
-use Rattle.otlp_trace.specs.Data.{StatusData, EventData, LinkData, SpanData}
+use Rattle.otlp_trace.specs.Data.{KeyValueData, StatusData, EventData, LinkData, SpanData}
 use Rattle.otlp_trace.specs.Defaults.{no_status, no_event, no_link, no_span}
-use Rattle.otlp_trace.specs.Text.{bytes_field, status_text, event_text, link_text, span_text}
+use Rattle.otlp_trace.specs.Text.{bytes_field, key_value_text, status_text, event_text, link_text, span_text}
 use Rattle.otlp_trace.proofs.Spelled.{bytes_within}
 use Rattle.otlp_read.specs.declared.fault.ReadFault.{ReadFault}
-use Rattle.otlp_read.specs.Nested.{NestedStatus, NestedEvent, NestedLink}
-use Rattle.otlp_read.specs.Typed.{TypedStatus, TypedEvent, TypedLink, TypedSpan}
+use Rattle.otlp_read.specs.AnyValue.{no_key_value, key_value_step}
+use Rattle.otlp_read.specs.Nested.{NestedKeyValue, NestedStatus, NestedEvent, NestedLink}
+use Rattle.otlp_read.specs.Typed.{TypedKeyValue, TypedStatus, TypedEvent, TypedLink, TypedSpan}
 use Rattle.otlp_read.specs.Value.{status_step, event_step, link_step, span_step}
 use Rattle.otlp_read.specs.Walk.{◌>>=◌, Step, read_with}
 use Rattle.otlp_read.proofs.Back.{status_back, event_back, link_back}
@@ -15,13 +16,16 @@ use Rattle.otlp_read.proofs.Laws.{bind_ok}
 use Rattle.otlp_read.proofs.MessageSound.{status_sound, event_sound, link_sound}
 use Rattle.otlp_read.proofs.Opened.{opened}
 use Rattle.otlp_read.proofs.Taken.{Short, Back}
+use Rattle.otlp_read.proofs.ValueBack.{attribute_back}
+use Rattle.otlp_read.proofs.ValueSound.{attribute_sound}
 use Rattle.otlp_canonical.specs.Anew.{WrittenAnew}
 use Rattle.otlp_canonical.specs.Defaults.{DefaultsAbove, holds_default}
 use Rattle.otlp_canonical.specs.Inner.{FieldAlike, PutFor}
+use Rattle.otlp_canonical.proofs.Attributes.{span_attributes}
 use Rattle.otlp_canonical.proofs.Respelled.{one_walked}
 use Rattle.otlp_canonical.proofs.Dropped.{Going, going_same}
 use Rattle.otlp_canonical.proofs.InnerDefaults.{span_laws}
-use Rattle.otlp_canonical.proofs.Inside.{holding, event_put, link_put, status_put}
+use Rattle.otlp_canonical.proofs.Inside.{holding, attribute_put, event_put, link_put, status_put}
 
 -- a span of one field
 one_read : (room : ℕ) (spelled : List ℕ) (field : Entry) → 0 < room → IsField (101 - room) spelled field → read_with span_step room no_span spelled ≡ span_step (room - 1) no_span field spelled
@@ -37,6 +41,9 @@ written_alike step none text Typed Nested inner number bs old new a back typed n
     let short : Short (text a) = omega (arith, ap (λ (t : List ℕ). length t) is, length-append old (bytes_field number (text a)), bytes_within number (text a), fits) in
     record { put = text a; copied = is; short = short; same = read ∙ sym (back a typed nested short) }
 
+attribute_alone : (p : KeyValueData) → span_text (record no_span { attributes = p ∷ [] }) ≡ bytes_field 9 (key_value_text p)
+attribute_alone p = simp append-nil
+
 event_alone : (e : EventData) → span_text (record no_span { events = e ∷ [] }) ≡ bytes_field 11 (event_text e)
 event_alone e = simp append-nil
 
@@ -45,6 +52,19 @@ link_alone l = simp append-nil
 
 status_alone : (s : StatusData) → span_text (record no_span { status = Some s }) ≡ bytes_field 15 (status_text s)
 status_alone s = simp append-nil
+
+pub attribute_written : (room d most : ℕ) (spelled bs old new : List ℕ) → 0 < room → IsField (101 - room) spelled (holding 9 bs) → length new < 2 ^ 64 → WrittenAnew room spelled old new → PutFor span_step DefaultsAbove (room - 1) d most (holding 9 bs) old new
+attribute_written room d most spelled bs old new some first fits w =
+    let inner = room - 1 in
+    let read = read_with key_value_step inner no_key_value bs in
+    let l = bind_ok (read >>= λ p. Ok (p ∷ [])) (λ l. Ok (record no_span { attributes = l })) w.value (sym (one_read room spelled (holding 9 bs) some first) ∙ w.read) in
+    let p = bind_ok read (λ p. Ok (p ∷ [])) l.0 l.1 in
+    let list : p.0 ∷ [] ≡ l.0 = ok_is (p.0 ∷ []) l.0 p.2 in
+    let value : w.value ≡ record no_span { attributes = p.0 ∷ [] } = sym (ok_is (record no_span { attributes = l.0 }) w.value l.2) ∙ ap (λ (m : List KeyValueData). record no_span { attributes = m }) (sym list) in
+    let typed : TypedSpan (record no_span { attributes = p.0 ∷ [] }) = subst TypedSpan value w.typed in
+    let is : new ≡ old ++ bytes_field 9 (key_value_text p.0) = w.copied ∙ ap (λ (v : SpanData). old ++ span_text v) value ∙ ap (λ (t : List ℕ). old ++ t) (attribute_alone p.0) in
+    attribute_put span_step DefaultsAbove (λ (n : ℕ). n == 9) span_attributes inner d most 9 bs old new refl
+    (written_alike key_value_step no_key_value key_value_text TypedKeyValue NestedKeyValue inner 9 bs old new p.0 (attribute_back inner) typed.attributes.0 (attribute_sound ⊥ inner p.0 bs (λ f. absurd f) p.1).0 p.1 fits is)
 
 pub event_written : (room d most : ℕ) (spelled bs old new : List ℕ) → 0 < room → IsField (101 - room) spelled (holding 11 bs) → length new < 2 ^ 64 → WrittenAnew room spelled old new → PutFor span_step DefaultsAbove (room - 1) d most (holding 11 bs) old new
 event_written room d most spelled bs old new some first fits w =

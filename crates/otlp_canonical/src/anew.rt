@@ -134,6 +134,23 @@ fn only_field(pair: Pair<'_>, room: u32) -> Option<Field<'_>>
     Some(field)
 }
 
+/// Whether `put_respelled` puts the attribute's text, but for what stands in an array or a list: a key and a value are
+/// all of it, and the value is one field that is known, in no more bits than it has.
+pub fn is_respellable(text: &[u8], room: u32) -> bool {
+    let depth = 101u32.saturating_sub(room);
+    let Some(pair) = split_pair(text, depth) else {
+        return false;
+    };
+    let Ok(Some((field, rest))) = next_field(pair.value, depth) else {
+        return pair.value.is_empty();
+    };
+    let is_short = match field.value {
+        Value::Varint(number) => field.number != 2 || number < 2,
+        _ => true,
+    };
+    is_short && rest.is_empty() && AnyValue::knows(field)
+}
+
 /// Appends a field of a span with the attribute's text anew, by way of `put_pair`.
 fn put_nested(copy: &mut Vec<u8>, text: &[u8], room: u32) -> Result<bool, AllocError>
     ensures { IfOk result (λ whole. whole ≡ true

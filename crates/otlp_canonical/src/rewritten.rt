@@ -1,5 +1,5 @@
-//! Spans whose fields are in order, of which some are put anew one by one: what isn't canonical in an attribute, and
-//! events, links and statuses that are read and written.
+//! Spans whose fields are in order, of which some are put anew one by one: what isn't canonical in an attribute,
+//! numbers of more bits than a span takes, and events, links, statuses and attributes that are read and written.
 
 ghost use Rattle.std.specs.Prelude.{◌≡◌, ◌-◌, ◌<◌, ◌++◌, ℕ, true, [], IfOk, IfSome};
 ghost use Rattle.pb_wire.specs.Grammar.{entry, IsField};
@@ -7,11 +7,12 @@ ghost use Rattle.otlp_canonical.specs.Anew.{WrittenAnew};
 ghost use Rattle.otlp_canonical.specs.Canonical.{CanonicalCopy};
 ghost use Rattle.otlp_canonical.specs.Defaults.{DefaultsAbove};
 ghost use Rattle.otlp_canonical.specs.Inner.{PutFor};
+ghost use Rattle.otlp_canonical.specs.LowBits.{IsReadAs};
 ghost use Rattle.otlp_trace.specs.Defaults.{no_span};
 ghost use Rattle.otlp_read.specs.Value.{span_step};
 ghost use Rattle.otlp_read.specs.Walk.{read_with};
 
-use crate::anew::{put_respelled, put_short};
+use crate::anew::{is_respellable, put_respelled, put_short};
 use crate::attribute::{begins_otherwise, field_size, is_plain};
 use crate::defaults::is_default;
 use crate::message::Canonical;
@@ -21,6 +22,12 @@ use otlp_read::{ReadFault, read_span, span_is_typed};
 use otlp_trace::{Event, KeyValue, Link, Span, Status, write_span};
 use pb_wire::{Field, Value, next_field};
 use std::alloc::{AllocError, Global};
+
+/// The number of a span's kind.
+const KIND: u32 = 6;
+
+/// The bits that stand before a negative number of 32 bits where it is written in 64.
+const SIGN: u64 = 0xffff_ffff_0000_0000;
 
 /// Whether a span's field, which takes so many bytes, stays as it is: if the span doesn't know it, or if it holds a
 /// message's canonical text behind a length that is as short as it can be. Whether a plain attribute is UTF-8 isn't
@@ -41,6 +48,23 @@ fn stays(field: Field<'_>, size: usize, room: u32) -> bool {
     canonical && size == field_size(text.len())
 }
 
+/// Whether it is an attribute that is read and written, if it doesn't stay as it is.
+fn is_read(field: Field<'_>, room: u32) -> bool {
+    match field.value {
+        Value::Bytes(text) => field.number == 9 && !is_respellable(text, room),
+        _ => false,
+    }
+}
+
+/// Whether the field at the front is one that is read and written so.
+fn is_read_next(text: &[u8], room: u32) -> bool {
+    let depth = 101u32.saturating_sub(room);
+    match next_field(text, depth) {
+        Ok(Some((field, _rest))) => is_read(field, room.saturating_sub(1)),
+        _ => false,
+    }
+}
+
 /// Appends what is written of the span that a reader makes of the text. Tells whether it did.
 fn put_read(alloc: Global, copy: &mut Vec<u8>, text: &[u8], room: u32) -> Result<bool, AllocError>
     ensures { IfOk result (λ whole. whole ≡ true
@@ -57,6 +81,44 @@ fn put_read(alloc: Global, copy: &mut Vec<u8>, text: &[u8], room: u32) -> Result
     span_is_typed(&span);
     write_span(alloc, copy, &span)?;
     Ok(true)
+}
+
+/// The field with no more bits than a span takes: of a count 32, of a kind 32 with a sign, which is written in 64.
+fn with_low_bits(field: Field<'_>) -> Field<'_>
+    ensures { IsReadAs (entry result) (entry field.entry) }
+{
+    let Value::Varint(number) = field.value else {
+        return field;
+    };
+    let low = number % (1 << 32);
+    if field.number == KIND && low >= 1 << 31 {
+        return Field {
+            number: field.number,
+            value: Value::Varint(low + SIGN),
+        };
+    }
+    Field {
+        number: field.number,
+        value: Value::Varint(low),
+    }
+}
+
+/// Appends a span's field that holds no bytes anew, behind fields of numbers up to `most`. Tells whether it did: a
+/// number may be a default in the bits that are taken of it.
+fn put_number(copy: &mut Vec<u8>, field: Field<'_>, most: u32) -> Result<bool, AllocError>
+    ensures { (room d : ℕ) → IfOk result (λ whole. whole ≡ true
+        → PutFor span_step DefaultsAbove room d most (entry field.entry)
+        copy.old.items copy.new.items) }
+{
+    let low = with_low_bits(field);
+    if is_default(low) {
+        return Ok(most < low.number);
+    }
+    if !Span::knows(low) {
+        return Ok(false);
+    }
+    let whole = put_short(copy, low)?;
+    Ok(whole)
 }
 
 /// Appends a span's field anew, behind fields of numbers up to `most`. Tells whether it did.
@@ -79,15 +141,16 @@ fn put_anew(
     if room == 0 {
         return Ok(false);
     }
+    let Value::Bytes(text) = field.value else {
+        let whole = put_number(copy, field, most)?;
+        return Ok(whole);
+    };
     if !Span::knows(field) {
         return Ok(false);
     }
-    let Value::Bytes(text) = field.value else {
-        let whole = put_short(copy, field)?;
-        return Ok(whole);
-    };
     let whole = match field.number {
-        9 => put_respelled(copy, text, room - 1)?,
+        9 if is_respellable(text, room - 1) => put_respelled(copy, text, room - 1)?,
+        9 => put_read(alloc, copy, spelled, room)?,
         11 => put_read(alloc, copy, spelled, room)?,
         13 => put_read(alloc, copy, spelled, room)?,
         15 if most < 15 => put_read(alloc, copy, spelled, room)?,
@@ -126,6 +189,10 @@ fn put_fields<'a>(
             most = most.max(field.number);
             left = rest;
             continue;
+        }
+        // To read all attributes of a span alone takes longer than to read the span.
+        if is_read(field, room - 1) && is_read_next(rest, room) {
+            return Ok(None);
         }
         copy.extend_from_slice(&from[..from.len() - left.len()])?;
         if !put_anew(alloc, copy, field, spelled, most, room)? {
