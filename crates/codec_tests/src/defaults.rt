@@ -74,7 +74,7 @@ a_length_of_fewer_bytes_by_its_value \
 a_long_value_in_a_short_attribute 4a0b0a016b12838080000a0176 none\n\
 a_long_key 4a8b8080000a818080006b12030a0176 4a080a016b12030a0176\n\
 a_value_before_its_key 4a8b80800012838080000a01760a016b 4a080a016b12030a0176\n\
-two_values 4a938080000a016b12838080000a017612838080000a0177 none\n\
+two_values 4a938080000a016b12838080000a017612838080000a0177 4a080a016b12030a0177\n\
 a_long_status_twice 7a8380800012016d7a828080001802 none\n\
 a_long_attribute_behind_an_event 5a004a888080000a016b12030a0176 none\n\
 # Attributes that show by what they begin with that they aren't canonical.\n\

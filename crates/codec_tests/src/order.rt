@@ -79,10 +79,23 @@ a_long_list 4a200a016b121b32968080000a888080000a016b12030a01760a07120210010a016a
 4a1a0a016b121532130a080a016b12030a01760a070a016a12021001\n\
 an_array_in_an_array 4a120a016b120d2a0b0a092a070a828080001000 4a0f0a016b120a2a080a062a040a021000\n\
 a_key_that_is_no_text_twice 4a0b0a01ff0a016b12030a0176 none\n\
-two_values_in_an_attribute 4a0c0a016b12030a017612021001 none\n\
-two_members_of_a_value 4a0a0a016b12050a01761001 none\n\
-a_bool_of_two 4a070a016b12021002 none\n\
-a_field_that_is_not_known_before_a_key 4a0a20010a016b12030a0176 none\n\
+two_values_in_an_attribute 4a0c0a016b12030a017612021001 4a070a016b12021001\n\
+two_members_of_a_value 4a0a0a016b12050a01761001 4a070a016b12021001\n\
+two_members_behind_a_default 22004a0a0a016b12050a01761001 4a070a016b12021001\n\
+two_members_among_canonical_attributes \
+4a030a016b4a0a0a016b12050a017610014a080a016b12030a0176 4a030a016b4a070a016b120210014a080a016b12030a0176\n\
+two_members_in_an_array 4a0e0a016b12092a070a050a01761001 none\n\
+two_members_of_which_one_is_no_text 4a0a0a016b120510010a01ff none\n\
+two_members_and_a_key_that_is_no_text 4a0a0a01ff12050a01761001 none\n\
+a_bool_of_two 4a070a016b12021002 4a070a016b12021001\n\
+a_field_that_is_not_known_before_a_key 4a0a20010a016b12030a0176 4a0a0a016b12030a01762001\n\
+a_field_that_is_not_known_before_a_value 4a0a0a016b180112030a0176 4a0a0a016b12030a01761801\n\
+a_field_that_is_not_known_before_a_string 4a0a0a016b120540010a0176 4a0a0a016b12050a01764001\n\
+a_long_string_and_a_field_that_is_not_known 4a0d0a016b12060a81808000761801 4a0a0a016b12030a01761801\n\
+# Of such attributes none is read alone before another one.\n\
+two_such_attributes_apart \
+4a0a0a016112050a017610014a030a016b4a0a0a016212050a01761001 4a070a0161120210014a030a016b4a070a016212021001\n\
+two_such_attributes_side_by_side 4a0a0a016112050a017610014a0a0a016212050a01761001 none\n\
 # Events, links and a status whose fields are in another order, or stand twice.\n\
 an_event_in_reverse 5a1820031a080a016b12030a0176120165090101010101010101 \
 5a180901010101010101011201651a080a016b12030a01762003\n\
@@ -103,7 +116,12 @@ each_id_twice 0a01611201622201632201641201650a0166 0a0166120165220164\n\
 a_name_that_is_no_text_and_a_name 2a01ff2a016e none\n\
 a_trace_state_that_is_no_text_before_one 1a01ff1a0173 none\n\
 a_count_in_more_bytes 508300 5003\n\
-a_kind_of_more_bits 308280808010 none\n\
+# Of a number with more bits than a span takes of it, those that it takes.\n\
+a_kind_of_more_bits 308280808010 3002\n\
+a_kind_of_more_bits_and_a_sign 3083808080a0ffffffff01 3003\n\
+a_kind_with_a_sign_in_32_bits 30ffffffff0f 30ffffffffffffffffff01\n\
+a_kind_of_none_in_its_bits 2a016e308080808010 2a016e\n\
+a_count_of_more_bits 2a016e508380808010 2a016e5003\n\
 # Statuses are merged, and each must be sound by itself.\n\
 a_message_and_a_code_in_two_statuses 7a0312016d7a021802 7a0512016d1802\n\
 a_code_and_a_message_in_two_statuses 7a0218027a0312016d 7a0512016d1802\n\
