@@ -1,5 +1,5 @@
 -- How many bytes numbers and fields take.
-use Rattle.std.proofs.Common.{◌≡◌, ℕ, zero, suc, ◌+◌, ◌-◌, ◌*◌, ◌/◌, ◌^◌, ◌<◌, ◌≤◌, min, List, [], ◌∷◌, ◌++◌, length, refl, sym, ap, ◌∙◌, arith, inl, inr, length-append, append_assoc}
+use Rattle.std.proofs.Common.{◌≡◌, ℕ, zero, suc, ◌+◌, ◌-◌, ◌*◌, ◌/◌, ◌%◌, ◌^◌, ◌<◌, ◌≤◌, min, List, [], ◌∷◌, ◌++◌, length, refl, sym, ap, ◌∙◌, arith, inl, inr, length-append, append_assoc}
 use Rattle.std.proofs.lemmas.Bool.{cases_lt}
 use Rattle.std.proofs.Math.Nat.{pow-suc}
 use Rattle.pb_wire.specs.declared.field.WireType.TheVariants as types
@@ -39,6 +39,15 @@ sizing_more number left more so_far le =
 
 pub sizing_ends : (number left more : ℕ) → Sizing number left more → left < 128 → more + 1 ≡ length (varint_text number)
 sizing_ends number left more so_far small = omega (arith, ap length (groups_one (9 - more) left small), so_far.sized)
+
+-- a length of two bytes, behind the tag of `spans` in a ScopeSpans
+two_groups : (n : ℕ) → 128 ≤ n → n < 16384 → varint_text n ≡ (n % 128 + 128) ∷ n / 128 ∷ []
+two_groups n le lt = groups_more 8 n le ∙ ap (λ (t : List ℕ). (n % 128 + 128) ∷ t) (groups_one 8 (n / 128) (omega (arith, lt)))
+
+pub spans_field : (bs : List ℕ) → 128 ≤ length bs → length bs < 16384 → (18 ∷ (length bs % 128 + 128) ∷ length bs / 128 ∷ []) ++ bs ≡ bytes_field 2 bs
+spans_field bs le lt =
+    let tag : tag_text 2 types.Bytes ≡ 18 ∷ [] = groups_one 9 18 (omega arith) in
+    sym ((λ j. tag j ++ (two_groups (length bs) le lt j ++ bs)))
 
 -- the tag of a number below 16 has one byte
 tag_size : (n : ℕ) → n < 16 → length (tag_text n types.Bytes) ≡ 1

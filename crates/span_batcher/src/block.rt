@@ -2,7 +2,7 @@
 
 ghost use Rattle.std.specs.Prelude.{◌≡◌, ◌+◌, ◌≤◌, ◌++◌, length, map, take, flat_map, IfOk, OnOk};
 ghost use Rattle.std.specs.List.{AllByRecursion};
-ghost use Rattle.otlp_trace.specs.Text.{repeated};
+ghost use Rattle.otlp_trace.specs.Text.{bytes_field, repeated};
 ghost use Rattle.span_batcher.specs.Blocks.{own_texts, spread, with_text, capped};
 
 use crate::size::field_size;
@@ -11,8 +11,10 @@ use span_pool::StoredSpan;
 use std::alloc::{AllocError, Global};
 use std::marker::Model;
 
-/// The number of `spans` in a `ScopeSpans`.
+/// The number of `spans` in a `ScopeSpans`, and the tag of such a field.
 const SPANS: u32 = 2;
+
+const SPANS_TAG: u8 = 0x12;
 
 /// The first of the spans, the others, and how many bytes all of them take in a `ScopeSpans`.
 #[derive(Drop)]
@@ -49,13 +51,30 @@ fn spans_size(more: usize, spans: &[&StoredSpan]) -> usize
     size
 }
 
+/// Appends a span's text as a field of a `ScopeSpans`. Most have a length of two bytes, which is put at once with the
+/// tag.
+#[inline(always)]
+fn put_span(out: &mut Vec<u8>, text: &[u8]) -> Result<(), AllocError>
+    ensures { OnOk result (out.new.items ≡ out.old.items ++ bytes_field 2 text.now) }
+{
+    let size = text.len();
+    if size < 0x80 || size >= 0x4000 {
+        return put_bytes_field(out, SPANS, text);
+    }
+    let low = (size % 0x80 + 0x80) as u8;
+    let high = (size / 0x80) as u8;
+    out.extend_from_slice(&[SPANS_TAG, low, high])?;
+    out.extend_from_slice(text)?;
+    Ok(())
+}
+
 /// Appends the spans, each as a field of a `ScopeSpans`.
 fn put_spans(out: &mut Vec<u8>, spans: &[&StoredSpan]) -> Result<(), AllocError>
     ensures { OnOk result (out.new.items ≡ out.old.items ++ repeated 2 (λ span. span.now.text)
         spans.now) }
 {
     for span in spans {
-        put_bytes_field(out, SPANS, span.text().as_slice())?;
+        put_span(out, span.text().as_slice())?;
     }
     Ok(())
 }
@@ -93,7 +112,7 @@ impl<'a> Block<'a> {
         ensures { OnOk result (out.new.items ≡ out.old.items ++ repeated 2 (λ text. text)
             (own_texts self.now)) }
     {
-        put_bytes_field(out, SPANS, self.first.text().as_slice())?;
+        put_span(out, self.first.text().as_slice())?;
         put_spans(out, self.others)
     }
 }

@@ -15,6 +15,6 @@ returns c =
     let text : Bor StoredData → List ℕ = λ span. span.now.text in
     let field = bytes_field 2 block.first.text in
     let own : List ℕ → List ℕ = λ t. t in
-    let front : c.put_bytes_field.new.out.items ≡ out ++ field = c.in_ok-put_bytes_field.ensures.on_success ∙ ap (λ (bs : List ℕ). out ++ bytes_field 2 bs) (c.as_slice.ensures ∙ (c.text.ensures ∙ ap (λ (b : BlockData). b.first.text) c.self.view_is)) in
+    let front : c.put_span.new.out.items ≡ out ++ field = c.in_ok-put_span.ensures ∙ ap (λ (bs : List ℕ). out ++ bytes_field 2 bs) (c.as_slice.ensures ∙ (c.text.ensures ∙ ap (λ (b : BlockData). b.first.text) c.self.view_is)) in
     let back : repeated 2 text others ≡ repeated 2 own block.others = sym (repeated-map 2 own text others) ∙ ap (λ (b : BlockData). repeated 2 own b.others) c.self.view_is in
     on_ok_weaker c.put_spans.result (λ made. made ∙ ((λ j. front j ++ back j) ∙ append_assoc out field (repeated 2 own block.others))) c.put_spans.ensures
