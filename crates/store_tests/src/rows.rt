@@ -4,7 +4,7 @@ use crate::story::{Numbers, Step, one, row_number, step_of, two};
 use std::alloc::{AllocError, Global};
 use std::process::Abort;
 use std::test::Fail;
-use trace_rows::{Keys, Row, TraceRows};
+use trace_rows::{Keys, Row, TraceRows, halves_of};
 
 const TRACE: [u8; 16] = [0x11; 16];
 
@@ -285,5 +285,12 @@ fn rows_open_join_are_decided_and_leave(rt: HostRuntime) -> Result<(), Fail> {
 #[test]
 fn rows_in_the_middle_leave_and_come_again(rt: HostRuntime) -> Result<(), Fail> {
     is_told(&rt, rt.alloc(), BLOCKS)?;
+    Ok(())
+}
+
+#[test]
+fn an_id_is_two_numbers(rt: HostRuntime) -> Result<(), Fail> {
+    let id = [0, 1, 2, 3, 4, 5, 6, 7, 8, 9, 10, 11, 12, 13, 14, 15];
+    assert!(rt; halves_of(id) == (0x0001_0203_0405_0607, 0x0809_0a0b_0c0d_0e0f));
     Ok(())
 }

@@ -9,6 +9,7 @@ use Rattle.span_pool.specs.declared.keys.TextKeys.{TextKeys}
 use Rattle.tail_policy.specs.declared.note.TraceNote.{TraceNote}
 use Rattle.tail_policy.specs.Note.{note_of}
 use Rattle.trace_rows.specs.declared.table.Row.{Row}
+use Rattle.trace_rows.specs.Maps.{is_id, halves}
 use Rattle.trace_rows.specs.Part.{keys_of}
 use Rattle.tenant_stores.specs.declared.stores.Stores.{Stores}
 use Rattle.tenant_stores.specs.Part.{Part}
@@ -146,11 +147,13 @@ abbrev pub note_in : Option (Row TraceNote) → Option TraceNote
 note_in None = None
 note_in (Some row) = Some row.note
 
--- the row of the last span, where one is known, is its trace's latest one, waits, and has this note
+-- the row of the last span, where one is known, is the latest one of the trace with these halves, waits, and has this
+-- note
 abbrev pub IsLast : Option LastRow → Pipeline → Part TraceNote → Type 0
 IsLast None own p = Unit
-IsLast (Some last) own p = (p.latest_rows last.trace ≡ Some last.number) × (own.rows.decided < last.number)
-    × (note_in (p.rows last.number) ≡ Some last.note)
+IsLast (Some last) own p =
+    ((trace : List ℕ) → is_id trace ≡ true → halves trace ≡ last.trace → p.latest_rows trace ≡ Some last.number)
+    × (own.rows.decided < last.number) × (note_in (p.rows last.number) ≡ Some last.note)
 
 -- ---- all spans of a body
 

@@ -27,6 +27,7 @@ use span_pool::{SharedKeys, StoredSpan, TextKeys};
 use std::alloc::{AllocError, Global};
 use tail_policy::TraceNote;
 use tenant_stores::{Stores, UndoEntry};
+use trace_rows::halves_of;
 
 /// Where a trace has its latest row.
 #[derive(Clone, Copy, Debug, PartialEq, Eq)]
@@ -45,8 +46,8 @@ pub enum TraceState {
 /// trace nor the row's note has to be looked up.
 #[derive(Clone, Copy, Debug, PartialEq, Eq)]
 pub struct LastRow {
-    /// Its trace.
-    trace: [u8; 16],
+    /// The halves of its trace's id, which take less to compare than sixteen bytes.
+    trace: (u64, u64),
     /// Its number.
     number: u64,
     /// Its note, with that span.
@@ -90,8 +91,7 @@ impl Pipeline {
         ensures number { IsTraceStateAt trace result self.now (part_in self.now stores.now) }
     {
         if let Some(row) = last {
-            let known = row.trace;
-            if known == trace {
+            if row.trace == halves_of(trace) {
                 return TraceState::Waits(row.number);
             }
         }
@@ -295,7 +295,7 @@ impl Pipeline {
                 journal
                     .placed
                     .push_reserved(UndoEntry::Joined(number, joining.former));
-                let trace = span.trace;
+                let trace = halves_of(span.trace);
                 *last = Some(LastRow {
                     trace,
                     number,
@@ -392,7 +392,7 @@ impl Pipeline {
                 journal
                     .placed
                     .push_reserved(UndoEntry::Opened(number, opening.key, opening.earlier));
-                let trace = span.trace;
+                let trace = halves_of(span.trace);
                 *last = Some(LastRow {
                     trace,
                     number,

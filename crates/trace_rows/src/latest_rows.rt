@@ -31,8 +31,9 @@ impl Model for LatestRows {
     ghost invariant = { λ s. at (pair_cmp nat_cmp) s.tenant s.numbers.entries s.id ≡ s.latest };
 }
 
-/// The two numbers that an id's halves are, each with the most significant byte first.
-fn halves_of(trace: [u8; 16]) -> (u64, u64)
+/// The two numbers that an id's halves are, each with the most significant byte first. Other ids have others.
+#[inline]
+pub fn halves_of(trace: [u8; 16]) -> (u64, u64)
     ensures halves { result ≡ halves trace }
     ensures id { is_id trace ≡ true }
 {

@@ -21,4 +21,5 @@ mod latest_rows;
 mod table;
 
 pub use keys::Keys;
+pub use latest_rows::halves_of;
 pub use table::{Row, TraceRows};

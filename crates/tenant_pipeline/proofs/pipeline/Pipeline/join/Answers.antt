@@ -87,7 +87,7 @@ returns-in-Ok-clause-last c =
     let note = c.joined-note.result in
     let holds = e.uses_added (counts_in own) (c.args.journal.now.undo.gone.items ++ own.batcher.spans) coming.0 coming.1.among coming.1.posting.holds.sound in
     let change = subst (λ (u : ℕ). Joins c.args.number c.in-Ok.joining.key k note (part u S1) (part u S2)) e.owner c.in-Ok.ensures.own_part in
-    joined_last own (text_keys k.keys) p (part t S1) (part t S2) c.args.span.now.trace c.args.number c.in-Ok.joining.key k note seated.row c.requires.latest_row c.requires.waits seated.there holds change
+    joined_last own (text_keys k.keys) p (part t S1) (part t S2) c.args.span.now.trace c.halves_of-trace.result c.args.number c.in-Ok.joining.key k note seated.row c.halves_of-trace.ensures.id c.halves_of-trace.ensures.halves c.requires.latest_row c.requires.waits seated.there holds change
 
 pub returns-in-Ok-clause-written : goal.returns-in-Ok-clause-written
 returns-in-Ok-clause-written c = λ start first written.

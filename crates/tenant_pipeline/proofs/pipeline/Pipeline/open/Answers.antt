@@ -99,11 +99,11 @@ returns-in-Ok-clause-last c =
     let opened : made.rows.opened ≡ own.rows.opened = ap (λ (n : Counts). n.opened) c.make_room.ensures.rows in
     let change = subst (λ (u : ℕ). Opens number c.in-Ok.opening.key due span.trace k span.note (part u S1) (part u S2)) e.owner c.in-Ok.ensures.own_part in
     let now : Pipeline = record made { rows = record made.rows { opened = number }; ledger = c.take.new.self } in
-    let last = opened_last now (part t S1) (part t S2) span.trace number c.in-Ok.opening.key due k span.note (let decided = ap (λ (n : Counts). n.decided) c.make_room.ensures.rows in
+    let last = opened_last now (part t S1) (part t S2) span.trace c.halves_of-trace.result number c.in-Ok.opening.key due k span.note c.halves_of-trace.ensures.id c.halves_of-trace.ensures.halves (let decided = ap (λ (n : Counts). n.decided) c.make_room.ensures.rows in
     let few = c.requires.coming.1.posting.holds.sound.order.decided in
     let some = own.section.tail_sampling.num_traces_range in
     omega (arith, opened, decided, few, some.0)) change in
-    subst (λ (u : ℕ). IsLast (Some (record { trace = span.trace; number = number; note = span.note })) now (part u S2)) (sym (ap (λ (o : Pipeline). o.tenant) c.make_room.ensures.same)) last
+    subst (λ (u : ℕ). IsLast (Some (record { trace = c.halves_of-trace.result; number = number; note = span.note })) now (part u S2)) (sym (ap (λ (o : Pipeline). o.tenant) c.make_room.ensures.same)) last
 
 pub returns-in-Ok-clause-written : goal.returns-in-Ok-clause-written
 returns-in-Ok-clause-written c = λ start first written.
