@@ -6,7 +6,7 @@ copy that has neither other crates nor edits that must be refused. It keeps what
 for the gate, and runs the program on its stored input. What it says goes to out/build.log. Where nothing has changed since the
 file was built, nothing is done.
 
-    build.py CRATE FILE      FILE is the program as Rattle's own compiler builds it, which replays faster than LLVM's
+    build.py CRATE FILE      FILE is the program as LLVM builds it, which is the one that the tests from outside try
 """
 import hashlib
 import os
@@ -86,9 +86,9 @@ def proved(where, log, number, start):
 
 
 def made(where, crate):
-    """The program, as the faster of the two compilers built it, or as the other where that one didn't."""
-    out = where / "crates" / crate / "out"
-    return next((it for it in (out / f"{crate}.by-rattle", out / crate) if it.is_file()), None)
+    """The program, as the faster of the two compilers built it."""
+    program = where / "crates" / crate / "out" / crate
+    return program if program.is_file() else None
 
 
 def build(crate, file, names, lines):
