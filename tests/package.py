@@ -164,6 +164,23 @@ def unit_runs(folder):
         check("what came", len(back_end.posts), 1)
 
 
+def unit_heaps(folder):
+    """The C library that the program is linked to knows what the unit says of heaps: what it doesn't know it ignores."""
+    installed("", PREFIX=f"{folder}/usr", ETC=f"{folder}/etc")
+    lines = lines_of(Path(folder, "usr/lib/systemd/system/nimchaes.service"), "Environment")
+    wanted = {name: int(value) for name, _, value in (word.partition("=") for line in lines for word in line)
+              if name.startswith("MALLOC_")}
+    loader = re.search(rb"/lib\w*/ld-[\w.-]+", Path(talk.program).read_bytes())[0].decode()
+    status, told = said(loader, "--list-tunables", env={**os.environ, **{name: str(value) for name, value in wanted.items()}})
+    if status != 0:
+        print(f"{loader}: doesn't list what it knows", flush=True)
+        return
+    found = {f"MALLOC_{name.upper()}": int(value, 16) for name, value in re.findall(r"malloc\.(\w+): 0x(\w+)", told)}
+    for name, value in wanted.items():
+        check(f"{name} of the unit", found.get(name.rstrip("_")), value)
+    check("what it says of heaps", sorted(wanted), ["MALLOC_ARENA_MAX", "MALLOC_MMAP_THRESHOLD_", "MALLOC_TRIM_THRESHOLD_"])
+
+
 def unit_verified(folder):
     """systemd finds nothing wrong with the unit."""
     # It looks for the page and for the commands that the unit names.
@@ -205,7 +222,7 @@ def package(folder):
         check("lintian", [line for line in told.splitlines() if line.startswith("E")], [])
 
 
-TESTS = {test.__name__: test for test in (in_place, manual, unit_runs, unit_verified, package)}
+TESTS = {test.__name__: test for test in (in_place, manual, unit_runs, unit_heaps, unit_verified, package)}
 
 
 def main():
