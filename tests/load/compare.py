@@ -56,6 +56,7 @@ def main():
     asked.add_argument("--seconds", type=int, default=3, help="how long each run posts")
     asked.add_argument("--spans", type=int, default=measure.SPANS, help="spans a body")
     measure.add_processors(asked)
+    measure.add_unit(asked)
     words = asked.parse_args()
     words.audit, words.wrong = False, 0
     head = ("Tenants, connections, requests a second", *FIGURES)

@@ -24,6 +24,7 @@ import time
 from pathlib import Path
 
 HERE = Path(__file__).resolve().parent
+UNIT = HERE.parent.parent / "packaging/nimchaes.service.in"
 SPANS = 100
 RATE = 200
 TENANTS = (1, 8, 64)
@@ -82,9 +83,10 @@ def wait_for(is_so, what):
 class Started:
     """A program on these processors that goes on until its input ends, and that nothing is left of behind a `with`."""
 
-    def __init__(self, processors, *words):
-        pipe = subprocess.PIPE
-        self.run = subprocess.Popen(on(processors, *words), stdin=pipe, stdout=pipe, stderr=pipe, text=True)
+    def __init__(self, processors, *words, heaps=()):
+        pipe, environment = subprocess.PIPE, {**os.environ, **dict(heaps)}
+        words = on(processors, *words)
+        self.run = subprocess.Popen(words, stdin=pipe, stdout=pipe, stderr=pipe, text=True, env=environment)
 
     def __enter__(self):
         return self
@@ -96,6 +98,11 @@ class Started:
 
 def on(processors, *words):
     return ["taskset", "-c", processors, *words]
+
+
+def unit_heaps():
+    """What the packaged unit tells the C library of its heaps."""
+    return re.findall(r"^Environment=(MALLOC_\w+)=(\S+)$", UNIT.read_text(), re.MULTILINE)
 
 
 class BackEnd(Started):
@@ -117,8 +124,8 @@ class BackEnd(Started):
 class Service(Started):
     """The program as a service."""
 
-    def __init__(self, processors, port, *words):
-        super().__init__(processors, *words)
+    def __init__(self, processors, port, *words, heaps=()):
+        super().__init__(processors, *words, heaps=heaps)
         self.port = port
 
     def is_up(self):
@@ -159,7 +166,7 @@ def measured(words, load, folder, tenants, connections, rate):
     with BackEnd(others, load) as back_end:
         file.write_text(settings(port, back_end.port, tenants, connections))
         program = [os.path.abspath(words.program), "serve", file, *(["--audit"] if words.audit else [])]
-        with Service(words.own, port, *program) as service:
+        with Service(words.own, port, *program, heaps=unit_heaps() if words.unit else ()) as service:
             wait_for(service.is_up, "the service is up")
             before = service.seconds()
             post = on(others, load, "post", *map(str, (port, tenants, connections, rate, words.seconds, words.spans)))
@@ -191,6 +198,10 @@ def add_processors(asked):
     asked.add_argument("--others", default=f"2-{processors - 1}" if processors > 2 else "0", help="load and back end's")
 
 
+def add_unit(asked):
+    asked.add_argument("--unit", action="store_true", help="the program's heaps are as in the packaged unit")
+
+
 def main():
     asked = argparse.ArgumentParser(description="Measures a collector as a service.")
     asked.add_argument("program")
@@ -201,6 +212,7 @@ def main():
     asked.add_argument("--rates", type=int, nargs="+", default=(RATE, 0), help="requests a second, 0: all it takes")
     asked.add_argument("--spans", type=int, default=SPANS, help="spans a body")
     add_processors(asked)
+    add_unit(asked)
     words = asked.parse_args()
     wrong = 0
     print("| Tenants | Connections | Requests a second | half within | 99 of 100 within | Spans a second taken "
