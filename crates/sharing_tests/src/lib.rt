@@ -19,6 +19,8 @@ mod lane_tests;
 #[cfg(test)]
 mod lane_thread_tests;
 #[cfg(test)]
+mod list_tests;
+#[cfg(test)]
 mod log_tests;
 #[cfg(test)]
 mod outcomes;
