@@ -1,12 +1,13 @@
 -- Who is let in is there.
-use Rattle.std.proofs.Common.{◌≡◌, ℕ, ◌==◌, ◌^◌, true, ◌&&◌, [], ◌∷◌, length, Option, Some, None, Ok, IsSome, nat_lt, refl, sym, subst, ◌∙◌, arith}
+use Rattle.std.proofs.Common.{◌≡◌, ℕ, List, ◌==◌, ◌^◌, true, ◌&&◌, [], ◌∷◌, length, Option, Some, None, Ok, IsSome, nat_lt, refl, sym, subst, ◌∙◌, arith}
 use Rattle.std.specs.Option.{option_or}
 use Rattle.std.proofs.lemmas.Bool.Decides.{nat_tests}
 use Rattle.std.proofs.lemmas.List.Folds.{find-append}
 use Rattle.toml.specs.Data.{Members}
-use Rattle.tail_settings.specs.Change.{only_tenant, free_number, joined, admitted_table}
+use Rattle.toml.specs.Parse.{parse_document}
+use Rattle.tail_settings.specs.Change.{only_tenant, free_number, joined, admitted_table, admitted}
 use Rattle.tail_settings.specs.Fault.{too_many}
-use Rattle.tail_settings.specs.Settings.{TenantData, SettingsData, tenant_at, numbered_tenant, few_spans}
+use Rattle.tail_settings.specs.Settings.{TenantData, SettingsData, tenant_at, numbered_tenant, few_spans, document_in}
 use Rattle.tail_settings.proofs.Sound.{bound, chosen, ok_is, numbered_tenant-number}
 
 -- who comes has the next number
@@ -19,6 +20,12 @@ came s new document h =
     let fits = bound (few_spans (joined s tenant.0).tenants) _ new tenant.2 in
     let next = chosen (nat_lt (length s.tenants) 1000 && nat_lt s.next (2 ^ 32)) s.next number.0 too_many number.1 in
     (tenant.0, numbered_tenant-number number.0 s.tenants table.0 tenant.0 tenant.1 ∙ sym next.1, ok_is (joined s tenant.0) new fits.2)
+
+-- the same with a text
+pub came_with : (s new : SettingsData) (text : List ℕ) → admitted s text ≡ Ok new → (t : TenantData) × (t.number ≡ s.next) × (joined s t ≡ new)
+unfolding admitted
+came_with s new text h =
+    let document = bound (document_in (parse_document text)) (admitted_table s) new h in came s new document.0 document.2
 
 one_of : {X : Type 0} (a : Option X) (x : X) → IsSome (option_or a (Some x))
 one_of None x = refl

@@ -5,7 +5,7 @@ use Rattle.std.proofs.lemmas.List.{append_cancel_left}
 use Rattle.otlp_front.specs.Route.{number_of}
 use Rattle.shared_hub.specs.Logs.{CallerState}
 use Rattle.tail_settings.specs.Settings.{SettingsData}
-use Rattle.trace_service.specs.Comings.{Present, IsAdded}
+use Rattle.trace_service.specs.Comings.{Present, Standing, IsAdded}
 use Rattle.trace_service.specs.Documents.{Reads}
 use Rattle.trace_service.specs.Output.{Output, IsPut}
 use Rattle.trace_service.specs.Commands.{AsksNothing, IsReportedOf, IsRetiredOf, IsAnswered, reports, adds, retires, asks_nothing}
@@ -43,34 +43,34 @@ retires_nobody present line name text none = record {
   no_going = λ other same. no_other present (codes "retire ") name other (sym text ∙ same) none;
 }
 
-module _ (port : Bool) (reads : Reads) (first : SettingsData) (shards : ℕ) (line : List ℕ) (present : Present) (old : CallerState) (before : ℕ)
-    (so_far : Output) (name : List ℕ) (left : Present) (new : CallerState) (last : ℕ) (written : Output) where
-  report_of : (found : Option ℕ) → number_of present name ≡ found → line ≡ codes "report " ++ name
+module _ (port : Bool) (reads : Reads) (first : SettingsData) (shards : ℕ) (line : List ℕ) (standing : Standing) (old : CallerState) (before : ℕ)
+    (so_far : Output) (name : List ℕ) (left : Standing) (new : CallerState) (last : ℕ) (written : Output) where
+  report_of : (found : Option ℕ) → number_of standing.present name ≡ found → line ≡ codes "report " ++ name → left ≡ standing
       → IsReportedOf shards name found old before so_far new last written
-      → IsAnswered port reads first shards line present old before so_far present new last written
-  report_of (Some tenant) is text told = reports name tenant text is told refl
-  report_of None is text told = asks_nothing (report_of_nobody present line name text is) told.0 told.1 told.2 refl
+      → IsAnswered port reads first shards line standing old before so_far left new last written
+  report_of (Some tenant) is text same told = reports name tenant text is told same
+  report_of None is text same told = asks_nothing (report_of_nobody standing.present line name text is) told.0 told.1 told.2 same
 
-  pub answers_report : line ≡ codes "report " ++ name
-      → IsReportedOf shards name (number_of present name) old before so_far new last written
-      → IsAnswered port reads first shards line present old before so_far present new last written
-  answers_report text told = report_of (number_of present name) refl text told
+  pub answers_report : line ≡ codes "report " ++ name → left ≡ standing
+      → IsReportedOf shards name (number_of standing.present name) old before so_far new last written
+      → IsAnswered port reads first shards line standing old before so_far left new last written
+  answers_report text same told = report_of (number_of standing.present name) refl text same told
 
   pub answers_add : line ≡ codes "add " ++ name → last ≡ before
-      → ((told : List ℕ) × IsAdded reads first shards name present old left new told × IsPut so_far written told)
-      → IsAnswered port reads first shards line present old before so_far left new last written
+      → ((told : List ℕ) × IsAdded reads first shards name standing old left new told × IsPut so_far written told)
+      → IsAnswered port reads first shards line standing old before so_far left new last written
   answers_add text same told = adds name told.0 text told.1 told.2 same
 
-  retirement_of : (found : Option ℕ) → number_of present name ≡ found → line ≡ codes "retire " ++ name
-      → IsRetiredOf port shards name found present old before so_far left new last written
-      → IsAnswered port reads first shards line present old before so_far left new last written
+  retirement_of : (found : Option ℕ) → number_of standing.present name ≡ found → line ≡ codes "retire " ++ name
+      → IsRetiredOf port shards name found standing old before so_far left new last written
+      → IsAnswered port reads first shards line standing old before so_far left new last written
   retirement_of (Some tenant) is text told = retires name tenant text is told
-  retirement_of None is text told = asks_nothing (retires_nobody present line name text is) told.1 told.2 told.3 told.0
+  retirement_of None is text told = asks_nothing (retires_nobody standing.present line name text is) told.1 told.2 told.3 told.0
 
   pub answers_retire : line ≡ codes "retire " ++ name
-      → IsRetiredOf port shards name (number_of present name) present old before so_far left new last written
-      → IsAnswered port reads first shards line present old before so_far left new last written
-  answers_retire text told = retirement_of (number_of present name) refl text told
+      → IsRetiredOf port shards name (number_of standing.present name) standing old before so_far left new last written
+      → IsAnswered port reads first shards line standing old before so_far left new last written
+  answers_retire text told = retirement_of (number_of standing.present name) refl text told
 
 -- whoever finds nobody under a name that a line asks for has found that it asks for nothing
 pub nobody_found : {X Y : Type 0} (P : Type 0) (f : X → Y) (found : Option X) (number : Option Y) (b : Bool) → option_map f found ≡ number

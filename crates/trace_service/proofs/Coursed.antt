@@ -1,8 +1,9 @@
 -- From what who reads the input did to what the service comes to.
-use Rattle.std.proofs.Common.{◌≡◌, ℕ, List, ◌∷◌, map, Option, Result, Ok, Err, IfOk, OnOk, Bool, sym, subst}
+use Rattle.std.proofs.Common.{◌≡◌, ℕ, List, [], ◌∷◌, map, Option, Result, Ok, Err, IfOk, OnOk, Bool, sym, subst}
 use Rattle.shared_hub.specs.Logs.{CallerState}
+use Rattle.tail_settings.specs.Change.{Change}
 use Rattle.tail_settings.specs.Settings.{SettingsData}
-use Rattle.trace_service.specs.Comings.{Present}
+use Rattle.trace_service.specs.Comings.{Present, Standing}
 use Rattle.trace_service.specs.Commands.{AreDrained, AreEmptyOn, AreReported, AreCommandsRead}
 use Rattle.trace_service.specs.Documents.{Reads}
 use Rattle.trace_service.specs.Output.{Output}
@@ -19,19 +20,23 @@ given_ok {P = P} r x is p = subst (λ s. OnOk s P) is p
 given_with : {T E : Type 0} (P : T → Type 0) (r : Result T E) (x : T) → r ≡ Ok x → IfOk r P → P x
 given_with P r x is p = subst (λ s. IfOk s P) is p
 
+-- who is present by these entries of the code's list
+abbrev pub left_of : List Entry → List Change → Standing
+left_of tenants changes = record { present = map entry_of tenants; changes = changes }
+
 -- the parts of it, one after the other, where the input didn't fail
-pub directed : {T E : Type 0} (port : Bool) (reads : Reads) (heard : Result T E) (x : T) (first : SettingsData) (shards : ℕ) (present : Present)
-    (tenants : List Entry) (input : Option (List ℕ)) (so_far text written : Output) (c0 c1 c2 c3 : CallerState) (m0 m1 m2 m3 : ℕ)
-    → heard ≡ Ok x → OnOk heard (AreCommandsRead port reads first shards input present c0 m0 so_far (map entry_of tenants) c1 m1 text)
+pub directed : {T E : Type 0} (port : Bool) (reads : Reads) (heard : Result T E) (x : T) (first : SettingsData) (shards : ℕ) (standing : Standing)
+    (tenants : List Entry) (changes : List Change) (input : Option (List ℕ)) (so_far text written : Output) (c0 c1 c2 c3 : CallerState) (m0 m1 m2 m3 : ℕ)
+    → heard ≡ Ok x → OnOk heard (AreCommandsRead port reads first shards input standing c0 m0 so_far (left_of tenants changes) c1 m1 text)
     → AreDrained shards c1 m1 (map number tenants) c2 m2 → AreEmptyOn c2 shards (map number tenants)
     → AreReported shards c2 m2 text (map entry_of tenants) c3 m3 written
-    → IsDirected port reads first present shards input c0 m0 so_far c3 m3 written
-directed port reads heard x first shards present tenants input so_far text written c0 c1 c2 c3 m0 m1 m2 m3 h read drained empty reported = record {
-  left = map entry_of tenants;
+    → IsDirected port reads first standing shards input c0 m0 so_far c3 m3 written
+directed port reads heard x first shards standing tenants changes input so_far text written c0 c1 c2 c3 m0 m1 m2 m3 h read drained empty reported = record {
+  left = left_of tenants changes;
   after_input = c1;
   input_end = m1;
   text = text;
-  heard = given_ok {P = AreCommandsRead port reads first shards input present c0 m0 so_far (map entry_of tenants) c1 m1 text} heard x h read;
+  heard = given_ok {P = AreCommandsRead port reads first shards input standing c0 m0 so_far (left_of tenants changes) c1 m1 text} heard x h read;
   after_drains = c2;
   drain_end = m2;
   drained = subst (λ ns. AreDrained shards c1 m1 ns c2 m2) (sym (numbers tenants)) drained;
@@ -39,21 +44,21 @@ directed port reads heard x first shards present tenants input so_far text writt
   told = reported;
 }
 
--- the caller was a new one, of so many shards, and is the first of all
-pub course_from : {E : Type 0} (mine port : Bool) (reads : Reads) (r : Result ℕ E) (settings : SettingsData) (present : Present) (all shards : ℕ)
-    (input so_far written : Option (List ℕ)) (old fresh new : CallerState) (before last : ℕ) (callers : List CallerState) → mine ≡ port → all ≡ shards → old ≡ fresh
+-- the caller was a new one, of so many shards, and is the first of all, and no change was made before
+pub course_from : {E : Type 0} (mine port : Bool) (reads : Reads) (r : Result ℕ E) (settings : SettingsData) (present : Present) (changes : List Change) (all shards : ℕ)
+    (input so_far written : Option (List ℕ)) (old fresh new : CallerState) (before last : ℕ) (callers : List CallerState) → mine ≡ port → all ≡ shards → old ≡ fresh → changes ≡ []
     → (others : List CallerState) × (callers ≡ new ∷ others)
-    → IfOk r (λ lost. IsDirected mine reads settings present all input old before (so_far, 0) new last (written, lost))
+    → IfOk r (λ lost. IsDirected mine reads settings (record { present = present; changes = changes }) all input old before (so_far, 0) new last (written, lost))
     → IfOk r (λ lost. IsCourse port reads settings present shards input fresh (so_far, 0) callers (written, lost))
-course_from mine port reads (Ok x) settings present all shards input so_far written old fresh new before last callers looked_after same is own directed = record {
+course_from mine port reads (Ok x) settings present changes all shards input so_far written old fresh new before last callers looked_after same is none own directed = record {
   before = before;
   last = last;
   own = new;
   others = own.0;
   callers_are = own.1;
-  directed = rw (looked_after, same, is) at directed;
+  directed = rw (looked_after, same, is, none) at directed;
 }
-course_from mine port reads (Err e) settings present all shards input so_far written old fresh new before last callers looked_after same is own directed = tt
+course_from mine port reads (Err e) settings present changes all shards input so_far written old fresh new before last callers looked_after same is none own directed = tt
 
 -- the same where the input didn't fail, of so many shards, of that new caller and of those tenants
 pub course_told : {E : Type 0} (port : Bool) (reads : Reads) (r : Result ℕ E) (lost : ℕ) (settings table : SettingsData) (tenants present : Present) (slots shards : ℕ)

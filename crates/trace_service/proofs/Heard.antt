@@ -2,7 +2,7 @@
 use Rattle.std.proofs.Common.{◌≡◌, ℕ, Bool, true, false, List, [], ◌∷◌, ◌++◌, Option, Some, None, IfSome, refl, subst}
 use Rattle.shared_hub.specs.Logs.{CallerState}
 use Rattle.tail_settings.specs.Settings.{SettingsData}
-use Rattle.trace_service.specs.Comings.{Present}
+use Rattle.trace_service.specs.Comings.{Standing}
 use Rattle.trace_service.specs.Documents.{Reads}
 use Rattle.trace_service.specs.Output.{Output}
 use Rattle.trace_service.specs.Commands.{TakesLine, IsAnswered, AreAnswered, no_answer, answer_more, AreFirst, no_line, line_more, AreCommandsRead}
@@ -11,11 +11,11 @@ use Rattle.trace_service.specs.Commands.{TakesLine, IsAnswered, AreAnswered, no_
 abbrev pub Taken : Option (List ℕ) → Option (List ℕ) → List (List ℕ) → Type 0
 Taken before after lines = IfSome before (λ text. (rest : List ℕ) × (after ≡ Some rest) × AreFirst text lines rest)
 
-pub record HeardSoFar (port : Bool) (reads : Reads) (settings : SettingsData) (shards : ℕ) (before after : Option (List ℕ)) (present : Present) (old : CallerState) (first : ℕ)
-    (so_far : Output) (left : Present) (new : CallerState) (last : ℕ) (written : Output) : Type 0 where
+pub record HeardSoFar (port : Bool) (reads : Reads) (settings : SettingsData) (shards : ℕ) (before after : Option (List ℕ)) (standing : Standing) (old : CallerState) (first : ℕ)
+    (so_far : Output) (left : Standing) (new : CallerState) (last : ℕ) (written : Output) : Type 0 where
   pub lines : List (List ℕ)
   pub taken : Taken before after lines
-  pub answered : AreAnswered port reads settings shards present old first so_far lines left new last written
+  pub answered : AreAnswered port reads settings shards standing old first so_far lines left new last written
 
 taken_none : (before : Option (List ℕ)) → Taken before before []
 taken_none None = tt
@@ -34,24 +34,24 @@ taken_all (Some text) mid after lines line t l =
     let none : t.0 ≡ [] = subst (λ (m : Option (List ℕ)). IfSome m (λ rest. TakesLine rest after line false)) t.1 l in
     subst (λ r. AreFirst text lines r) none t.2
 
-module _ (port : Bool) (reads : Reads) (settings : SettingsData) (shards : ℕ) (before : Option (List ℕ)) (present : Present) (old : CallerState) (first : ℕ) (so_far : Output) where
-  pub heard_none : HeardSoFar port reads settings shards before before present old first so_far present old first so_far
+module _ (port : Bool) (reads : Reads) (settings : SettingsData) (shards : ℕ) (before : Option (List ℕ)) (standing : Standing) (old : CallerState) (first : ℕ) (so_far : Output) where
+  pub heard_none : HeardSoFar port reads settings shards before before standing old first so_far standing old first so_far
   heard_none = record { lines = []; taken = taken_none before; answered = no_answer }
 
-  pub heard_more : (mid after : Option (List ℕ)) (known left : Present) (now new : CallerState) (then_last last : ℕ) (text written : Output) (line : List ℕ)
-      → HeardSoFar port reads settings shards before mid present old first so_far known now then_last text
+  pub heard_more : (mid after : Option (List ℕ)) (known left : Standing) (now new : CallerState) (then_last last : ℕ) (text written : Output) (line : List ℕ)
+      → HeardSoFar port reads settings shards before mid standing old first so_far known now then_last text
       → IfSome mid (λ rest. TakesLine rest after line true) → IsAnswered port reads settings shards line known now then_last text left new last written
-      → HeardSoFar port reads settings shards before after present old first so_far left new last written
+      → HeardSoFar port reads settings shards before after standing old first so_far left new last written
   heard_more mid after known left now new then_last last text written line h takes answer = record {
     lines = h.lines ++ line ∷ [];
     taken = taken_more before mid after h.lines line h.taken takes;
     answered = answer_more h.lines known now then_last text line left new last written h.answered answer;
   }
 
-  pub heard_all : (mid after : Option (List ℕ)) (left : Present) (new : CallerState) (last : ℕ) (written : Output) (line : List ℕ)
-      → HeardSoFar port reads settings shards before mid present old first so_far left new last written
+  pub heard_all : (mid after : Option (List ℕ)) (left : Standing) (new : CallerState) (last : ℕ) (written : Output) (line : List ℕ)
+      → HeardSoFar port reads settings shards before mid standing old first so_far left new last written
       → IfSome mid (λ rest. TakesLine rest after line false)
-      → AreCommandsRead port reads settings shards before present old first so_far left new last written
+      → AreCommandsRead port reads settings shards before standing old first so_far left new last written
   heard_all mid after left new last written line h takes = record {
     lines = h.lines;
     known = taken_all before mid after h.lines line h.taken takes;

@@ -9,6 +9,8 @@ pub mod Handled
 pub mod Present
 pub mod Came
 pub mod Admitted
+pub mod Below
+pub mod Standing
 pub mod Put
 pub mod Asked
 pub mod Joined

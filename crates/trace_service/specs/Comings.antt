@@ -1,10 +1,10 @@
 -- What came of a line that asks for a tenant to come. This project's own rule.
-use Rattle.std.specs.Prelude.{◌≡◌, ℕ, ◌%◌, List, [], ◌∷◌, ◌++◌, codes, Option, Some, None, Ok, Err, string_bytes}
+use Rattle.std.specs.Prelude.{◌≡◌, ℕ, ◌%◌, List, [], ◌∷◌, ◌++◌, codes, Option, Some, None, Ok, string_bytes}
 use Rattle.machine_hub.specs.declared.receipt.Receipt.{Receipt}
 use Rattle.machine_hub.specs.Hub.{IsRefusedOn}
 use Rattle.replay_script.specs.Answer.{added_text, refused_text}
 use Rattle.shared_hub.specs.Logs.{CallerState, IsStepOn}
-use Rattle.tail_settings.specs.Change.{admitted}
+use Rattle.tail_settings.specs.Change.{Change, admit, strike, after}
 use Rattle.tail_settings.specs.Fault.{FaultData, fault_number}
 use Rattle.tail_settings.specs.Settings.{SettingsData}
 use Rattle.tenant_shard.specs.declared.step.Step.TheVariants as steps
@@ -14,11 +14,20 @@ use Rattle.trace_service.specs.declared.comings.NotAdded.{NotAdded}
 use Rattle.trace_service.specs.declared.comings.NotAdded.TheVariants.{Refused, OutOfMemory}
 use Rattle.trace_service.specs.declared.in_force.Newcomer.{Newcomer}
 use Rattle.trace_service.specs.Documents.{Reads, IsUnread}
-use Rattle.trace_service.specs.InForce.{CameOf, IsNewcomer}
+use Rattle.trace_service.specs.InForce.{IsNewcomer, IsLetIn, IsTurnedAway}
 
 -- the tenants that are present, by number and name, in the order of their numbers
 abbrev pub Present : Type 0
 Present = List (ℕ × List ℕ)
+
+-- who is present, and all changes that were made of the settings at the start, in their order
+pub record Standing : Type 0 where
+  pub present : Present
+  pub changes : List Change
+
+-- these tenants before any change
+abbrev pub unchanged : Present → Standing
+unchanged present = record { present = present; changes = [] }
 
 -- the number by which a shard refused a step, if it did
 abbrev pub refusal_in : Outcome → Option ℕ
@@ -53,25 +62,29 @@ IsNotJoined shards newcomer old new (Refused number) =
     × (refusal_in outcome ≡ Some number)
 IsNotJoined shards newcomer old new OutOfMemory = IsRefusedOn old new (newcomer.number % shards)
 
--- What came of the line `add`, a space and this path, who is present then, and what is printed. A text was read at the
--- path, and under settings in force, which came of the first ones, its tenant was let in as their next one. With that
--- number and section it joined its shard, by one step, or it didn't, since the shard refused the step or was refused
--- memory. Or its document is refused under such settings, for its first fault; or no text was read; or memory was
--- refused between, before any step.
-pub data IsAdded (reads : Reads) (first : SettingsData) (shards : ℕ) (path : List ℕ) (present : Present)
-    (old : CallerState) : Present → CallerState → List ℕ → Type 0 where
-  added : (text : List ℕ) (now : SettingsData) (newcomer : Newcomer) (left : Present) (new : CallerState)
-      (line : List ℕ) → reads path (Ok text) → CameOf first now → IsNewcomer now text newcomer
-      → IsJoined shards newcomer present old left new line
-      → IsAdded reads first shards path present old left new line
-  not_joined : (text : List ℕ) (now : SettingsData) (newcomer : Newcomer) (why : NotAdded) (new : CallerState)
-      → reads path (Ok text) → CameOf first now → IsNewcomer now text newcomer
-      → IsNotJoined shards newcomer old new why
-      → IsAdded reads first shards path present old present new (not_added_text why)
-  faulty : (text : List ℕ) (now : SettingsData) (fault : FaultData) → reads path (Ok text) → CameOf first now
-      → admitted now text ≡ Err fault
-      → IsAdded reads first shards path present old present old (not_added_text (Refused (fault_number fault)))
-  unread : (why : NotAdded) → IsUnread reads path why
-      → IsAdded reads first shards path present old present old (not_added_text why)
-  no_memory : (text : List ℕ) → reads path (Ok text)
-      → IsAdded reads first shards path present old present old (not_added_text OutOfMemory)
+-- the newcomer was struck, and those who were present before are present then
+abbrev pub IsStruck : Newcomer → Standing → Standing → Type 0
+IsStruck newcomer standing left =
+    (left.present ≡ standing.present) × (left.changes ≡ standing.changes ++ strike newcomer.number ∷ [])
+
+-- What came of the line `add`, a space and this path, who is present then, which changes were made then, and what is
+-- printed. A text was read at the path, and under the settings that the changes until then made of the first ones its
+-- tenant was let in as their next one: that is one change more. With that number and section it joined its shard, by
+-- one step; or it didn't, since the shard refused the step or was refused memory, and then it was struck. Or nobody was
+-- let in, for the first fault of its document or since memory was refused, before any step; or no text was read.
+pub data IsAdded (reads : Reads) (first : SettingsData) (shards : ℕ) (path : List ℕ) (standing : Standing)
+    (old : CallerState) (left : Standing) : CallerState → List ℕ → Type 0 where
+  added : (text : List ℕ) (newcomer : Newcomer) (new : CallerState) (line : List ℕ) → reads path (Ok text)
+      → IsLetIn first standing.changes text newcomer left.changes
+      → IsJoined shards newcomer standing.present old left.present new line
+      → IsAdded reads first shards path standing old left new line
+  not_joined : (text : List ℕ) (newcomer : Newcomer) (why : NotAdded) (new : CallerState) → reads path (Ok text)
+      → IsNewcomer (after first standing.changes) text newcomer → IsNotJoined shards newcomer old new why
+      → left.present ≡ standing.present
+      → left.changes ≡ standing.changes ++ admit text ∷ strike newcomer.number ∷ []
+      → IsAdded reads first shards path standing old left new (not_added_text why)
+  turned_away : (text : List ℕ) (fault : Option FaultData) → reads path (Ok text)
+      → IsTurnedAway first standing.changes text fault left.changes → left.present ≡ standing.present
+      → IsAdded reads first shards path standing old left old (not_added_text (why_not fault))
+  unread : (why : NotAdded) → IsUnread reads path why → left ≡ standing
+      → IsAdded reads first shards path standing old left old (not_added_text why)

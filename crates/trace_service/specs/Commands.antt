@@ -1,12 +1,13 @@
 -- What the input asks for, and what is done for it and at its end. This project's own rule.
-use Rattle.std.specs.Prelude.{◌≡◌, ℕ, ◌%◌, ◌<◌, List, [], ◌∷◌, ◌++◌, length, filter, not, take, ◌==◌, if◌then◌else◌, codes, Bool, true, false, Option, Some, None, IfSome}
+use Rattle.std.specs.Prelude.{◌≡◌, ℕ, ◌%◌, ◌<◌, List, [], ◌∷◌, ◌++◌, length, filter, not, take, ◌==◌, if◌then◌else◌, codes, All, Bool, true, false, Option, Some, None, IfSome}
 use Rattle.std.specs.Io.BufRead.{drop_through}
 use Rattle.export_edge.specs.Work.{Through}
 use Rattle.machine_hub.specs.declared.receipt.Receipt.{Receipt}
 use Rattle.machine_hub.specs.Hub.{IsRefusedOn}
-use Rattle.otlp_front.specs.Route.{number_of}
+use Rattle.otlp_front.specs.Route.{names_in, number_of}
 use Rattle.replay_script.specs.Answer.{report_text, refused_text}
 use Rattle.shared_hub.specs.Logs.{CallerState, IsStepOn, IsEmptyOn}
+use Rattle.tail_settings.specs.Change.{strike, after}
 use Rattle.tail_settings.specs.Settings.{SettingsData}
 use Rattle.tenant_shard.specs.declared.step.Step.{Step}
 use Rattle.tenant_shard.specs.declared.step.Step.TheVariants as steps
@@ -17,7 +18,7 @@ use Rattle.trace_service.specs.declared.input.ReadResult.{ReadResult}
 use Rattle.trace_service.specs.declared.input.ReadResult.TheVariants.{Byte, Nothing, End}
 use Rattle.trace_service.specs.declared.chore.Chore.{Chore}
 use Rattle.trace_service.specs.declared.chore.Chore.TheVariants.{Report, Drain, Retire}
-use Rattle.trace_service.specs.Comings.{Present, IsAdded}
+use Rattle.trace_service.specs.Comings.{Present, Standing, unchanged, IsAdded}
 use Rattle.trace_service.specs.Documents.{Reads}
 use Rattle.trace_service.specs.Moments.{Rises}
 use Rattle.trace_service.specs.Output.{Output, IsPut}
@@ -112,16 +113,22 @@ abbrev pub stays : Outcome → Bool
 stays (outcomes.Refused tenant number) = number == not_empty
 stays _ = false
 
--- who is present once the tenant of this number was to go
-abbrev pub left_by : Outcome → ℕ → Present → Present
-left_by outcome tenant present =
-    if stays outcome then present else filter (λ other. not (other.0 == tenant)) present
+-- without the tenant of this number, which was struck
+abbrev pub without : ℕ → Standing → Standing
+without tenant standing = record {
+  present = filter (λ other. not (other.0 == tenant)) standing.present;
+  changes = standing.changes ++ strike tenant ∷ [];
+}
+
+-- who is present, and which changes were made, once the tenant of this number was to go
+abbrev pub left_by : Outcome → ℕ → Standing → Standing
+left_by outcome tenant standing = if stays outcome then standing else without tenant standing
 
 -- A tenant was to go: it was drained, then it was seen to hold no span, then it was to retire, and what came of that
--- was written under its name. These are present then. Only a service that has an admin port, where its end may
--- be asked for meanwhile, need not have seen that it holds none.
-pub record IsRetired (port : Bool) (name : List ℕ) (present : Present) (old new : CallerState)
-    (shards tenant before last : ℕ) (so_far : Output) (left : Present) (written : Output) : Type 0 where
+-- was written under its name. These are present then, and it was struck, unless it stays. Only a service that has an
+-- admin port, where its end may be asked for meanwhile, need not have seen that it holds none.
+pub record IsRetired (port : Bool) (name : List ℕ) (standing : Standing) (old new : CallerState)
+    (shards tenant before last : ℕ) (so_far : Output) (left : Standing) (written : Output) : Type 0 where
   pub after_drain : CallerState
   pub drain_end : ℕ
   pub drain : Outcome
@@ -129,44 +136,59 @@ pub record IsRetired (port : Bool) (name : List ℕ) (present : Present) (old ne
   pub empty : port ≡ false → IsEmptyOn after_drain (tenant % shards) tenant true
   pub outcome : Outcome
   pub made : IsMade after_drain new shards tenant drain_end last (step_of Retire tenant) outcome
-  pub left_are : left ≡ left_by outcome tenant present
+  pub left_are : left ≡ left_by outcome tenant standing
   pub line : IsPut so_far written (outcome_line name outcome)
 
 -- so it was with the tenant of this number, where there is one, and else nothing was done
-abbrev pub IsRetiredOf : Bool → ℕ → List ℕ → Option ℕ → Present → CallerState → ℕ → Output → Present → CallerState
-    → ℕ → Output → Type 0
-IsRetiredOf port shards name (Some tenant) present old before so_far left new last written =
-    IsRetired port name present old new shards tenant before last so_far left written
-IsRetiredOf port shards name None present old before so_far left new last written =
-    (left ≡ present) × (new ≡ old) × (last ≡ before) × (written ≡ so_far)
+abbrev pub IsRetiredOf : Bool → ℕ → List ℕ → Option ℕ → Standing → CallerState → ℕ → Output → Standing
+    → CallerState → ℕ → Output → Type 0
+IsRetiredOf port shards name (Some tenant) standing old before so_far left new last written =
+    IsRetired port name standing old new shards tenant before last so_far left written
+IsRetiredOf port shards name None standing old before so_far left new last written =
+    (left ≡ standing) × (new ≡ old) × (last ≡ before) × (written ≡ so_far)
 
 -- Of the tenants that are present the line was answered: by the report of the one for whose counters it asks; by what
--- came of its tenant's coming or going; or by nothing, where it asks for nothing. These are present then.
+-- came of its tenant's coming or going; or by nothing, where it asks for nothing. These are present then, and these
+-- changes were made.
 pub data IsAnswered (port : Bool) (reads : Reads) (first : SettingsData) (shards : ℕ) (line : List ℕ)
-    (present : Present) (old : CallerState) (before : ℕ) (so_far : Output) (left : Present) (new : CallerState)
+    (standing : Standing) (old : CallerState) (before : ℕ) (so_far : Output) (left : Standing) (new : CallerState)
     (last : ℕ) (written : Output) : Type 0 where
-  reports : (name : List ℕ) (tenant : ℕ) → line ≡ codes "report " ++ name → number_of present name ≡ Some tenant
-      → IsReported name old new shards tenant before last so_far written → left ≡ present
-      → IsAnswered port reads first shards line present old before so_far left new last written
-  adds : (path told : List ℕ) → line ≡ codes "add " ++ path → IsAdded reads first shards path present old left new told
-      → IsPut so_far written told → last ≡ before
-      → IsAnswered port reads first shards line present old before so_far left new last written
-  retires : (name : List ℕ) (tenant : ℕ) → line ≡ codes "retire " ++ name → number_of present name ≡ Some tenant
-      → IsRetired port name present old new shards tenant before last so_far left written
-      → IsAnswered port reads first shards line present old before so_far left new last written
-  asks_nothing : AsksNothing present line → new ≡ old → last ≡ before → written ≡ so_far → left ≡ present
-      → IsAnswered port reads first shards line present old before so_far left new last written
+  reports : (name : List ℕ) (tenant : ℕ) → line ≡ codes "report " ++ name → number_of standing.present name ≡ Some tenant
+      → IsReported name old new shards tenant before last so_far written → left ≡ standing
+      → IsAnswered port reads first shards line standing old before so_far left new last written
+  adds : (path told : List ℕ) → line ≡ codes "add " ++ path
+      → IsAdded reads first shards path standing old left new told → IsPut so_far written told → last ≡ before
+      → IsAnswered port reads first shards line standing old before so_far left new last written
+  retires : (name : List ℕ) (tenant : ℕ) → line ≡ codes "retire " ++ name → number_of standing.present name ≡ Some tenant
+      → IsRetired port name standing old new shards tenant before last so_far left written
+      → IsAnswered port reads first shards line standing old before so_far left new last written
+  asks_nothing : AsksNothing standing.present line → new ≡ old → last ≡ before → written ≡ so_far → left ≡ standing
+      → IsAnswered port reads first shards line standing old before so_far left new last written
 
 -- these lines were answered, one after the other
-pub data AreAnswered (port : Bool) (reads : Reads) (first : SettingsData) (shards : ℕ) (present : Present)
+pub data AreAnswered (port : Bool) (reads : Reads) (first : SettingsData) (shards : ℕ) (standing : Standing)
     (old : CallerState) (before : ℕ) (so_far : Output)
-    : List (List ℕ) → Present → CallerState → ℕ → Output → Type 0 where
-  no_answer : AreAnswered port reads first shards present old before so_far [] present old before so_far
-  answer_more : (lines : List (List ℕ)) (known : Present) (mid : CallerState) (between : ℕ) (text : Output)
-      (line : List ℕ) (left : Present) (new : CallerState) (last : ℕ) (written : Output)
-      → AreAnswered port reads first shards present old before so_far lines known mid between text
+    : List (List ℕ) → Standing → CallerState → ℕ → Output → Type 0 where
+  no_answer : AreAnswered port reads first shards standing old before so_far [] standing old before so_far
+  answer_more : (lines : List (List ℕ)) (known : Standing) (mid : CallerState) (between : ℕ) (text : Output)
+      (line : List ℕ) (left : Standing) (new : CallerState) (last : ℕ) (written : Output)
+      → AreAnswered port reads first shards standing old before so_far lines known mid between text
       → IsAnswered port reads first shards line known mid between text left new last written
-      → AreAnswered port reads first shards present old before so_far (lines ++ line ∷ []) left new last written
+      → AreAnswered port reads first shards standing old before so_far (lines ++ line ∷ []) left new last written
+
+-- who is present are the tenants of the settings that these changes made of the first ones
+abbrev pub AreInForce : SettingsData → Standing → Type 0
+AreInForce first standing = standing.present ≡ (names_in (after first standing.changes)).tenants
+
+-- Who is present once lines were answered are the tenants of the settings that all changes until then made, where
+-- those at the start were the tenants of the first ones, none of whom has the next number or one behind it.
+abbrev pub TenantsAreInForce : Reads → Type 0
+TenantsAreInForce reads =
+    (first : SettingsData) → All (λ t. t.number < first.next) first.tenants
+    → (port : Bool) (shards : ℕ) (old : CallerState) (before : ℕ) (so_far : Output) (lines : List (List ℕ))
+    (left : Standing) (new : CallerState) (last : ℕ) (written : Output)
+    → AreAnswered port reads first shards (unchanged (names_in first).tenants) old before so_far lines left new last
+    written → AreInForce first left
 
 -- these are the text's first lines, and that is what stands behind them
 pub data AreFirst (text : List ℕ) : List (List ℕ) → List ℕ → Type 0 where
@@ -174,13 +196,14 @@ pub data AreFirst (text : List ℕ) : List (List ℕ) → List ℕ → Type 0 wh
   line_more : (lines : List (List ℕ)) (rest line : List ℕ) (after : List ℕ) → AreFirst text lines rest
       → TakesLine rest (Some after) line true → AreFirst text (lines ++ line ∷ []) after
 
--- all lines of the input were answered: of one that is known these are all its lines. These tenants are present then
+-- all lines of the input were answered: of one that is known these are all its lines. These tenants
+-- are present then, and these changes were made
 pub record AreCommandsRead (port : Bool) (reads : Reads) (first : SettingsData) (shards : ℕ)
-    (input : Option (List ℕ)) (present : Present) (old : CallerState) (before : ℕ) (so_far : Output) (left : Present)
+    (input : Option (List ℕ)) (standing : Standing) (old : CallerState) (before : ℕ) (so_far : Output) (left : Standing)
     (new : CallerState) (last : ℕ) (written : Output) : Type 0 where
   pub lines : List (List ℕ)
   pub known : IfSome input (λ text. AreFirst text lines [])
-  pub answered : AreAnswered port reads first shards present old before so_far lines left new last written
+  pub answered : AreAnswered port reads first shards standing old before so_far lines left new last written
 
 -- each of these tenants was seen to hold no span
 abbrev pub AreEmptyOn : CallerState → ℕ → List ℕ → Type 0

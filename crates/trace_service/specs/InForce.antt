@@ -1,9 +1,9 @@
 -- Settings in force, to which tenants come and which they leave while threads look at them under a lock. This project's
 -- own rule.
-use Rattle.std.specs.Prelude.{◌≡◌, ◌⊎◌, ℕ, List, [], Option, Some, None, Result, Ok, Err, option_map, string_bytes}
+use Rattle.std.specs.Prelude.{◌≡◌, ◌⊎◌, ℕ, List, [], ◌∷◌, ◌++◌, Option, Some, None, Ok, Err, option_map, string_bytes}
 use Rattle.otlp_front.specs.Route.{Route, post, refuse, unknown_tenant}
 use Rattle.otlp_front.specs.Seen.{response_for}
-use Rattle.tail_settings.specs.Change.{Change, after, admitted, struck}
+use Rattle.tail_settings.specs.Change.{Change, admit, strike, after, admitted}
 use Rattle.tail_settings.specs.Fault.{FaultData}
 use Rattle.tail_settings.specs.Section.{SectionData, section_view}
 use Rattle.tail_settings.specs.Settings.{SettingsData, tenant_at, section_at}
@@ -54,26 +54,25 @@ IsWhere (post number) now destination = IsTenant (section_at now number) number 
 IsWhere (refuse due) now (To tenant own) = ⊥
 IsWhere (refuse due) now (Nowhere refusal) = response_for refusal ≡ due
 
--- who came under settings by this admission: their next tenant, with its name and section
-pub record IsNewcomerBy (admission : Result SettingsData FaultData) (now : SettingsData) (newcomer : Newcomer)
-    : Type 0 where
+-- who came under settings with the document of this text: their next tenant, with its name and section
+pub record IsNewcomer (now : SettingsData) (text : List ℕ) (newcomer : Newcomer) : Type 0 where
   pub grown : SettingsData
-  pub admits : admission ≡ Ok grown
+  pub admits : admitted now text ≡ Ok grown
   pub number : newcomer.number ≡ now.next
   pub name : option_map (λ t. t.name) (tenant_at grown newcomer.number) ≡ Some (string_bytes newcomer.name)
   pub section : section_at grown newcomer.number ≡ Some (section_view newcomer.section)
 
--- who came under settings with the document of this text
-abbrev pub IsNewcomer : SettingsData → List ℕ → Newcomer → Type 0
-IsNewcomer now text newcomer = IsNewcomerBy (admitted now text) now newcomer
+-- the tenant of a text came under the settings that these changes made of the first ones, and that is one change more
+abbrev pub IsLetIn : SettingsData → List Change → List ℕ → Newcomer → List Change → Type 0
+IsLetIn first changes text newcomer left =
+    IsNewcomer (after first changes) text newcomer × (left ≡ changes ++ admit text ∷ [])
 
--- nobody came under settings by this admission, and these are left: its fault is told, and nothing has changed; or
--- memory was refused, and nothing has changed, or its tenant was let in and struck again, so its number is used up
-abbrev pub IsTurnedAwayBy : Result SettingsData FaultData → SettingsData → Option FaultData → SettingsData → Type 0
-IsTurnedAwayBy admission now (Some fault) left = (admission ≡ Err fault) × (left ≡ now)
-IsTurnedAwayBy admission now None left =
-    (left ≡ now) ⊎ ((grown : SettingsData) × (admission ≡ Ok grown) × (left ≡ struck grown now.next))
-
--- nobody came under settings with the document of this text, and these are left
-abbrev pub IsTurnedAway : SettingsData → List ℕ → Option FaultData → SettingsData → Type 0
-IsTurnedAway now text fault left = IsTurnedAwayBy (admitted now text) now fault left
+-- Nobody came with the document of this text under the settings that these changes made of the first ones: its fault is
+-- told, and nothing has changed; or memory was refused, and nothing has changed, or its tenant was let in and struck
+-- again, so its number is used up.
+abbrev pub IsTurnedAway : SettingsData → List Change → List ℕ → Option FaultData → List Change → Type 0
+IsTurnedAway first changes text (Some fault) left =
+    (admitted (after first changes) text ≡ Err fault) × (left ≡ changes)
+IsTurnedAway first changes text None left =
+    (left ≡ changes) ⊎ ((grown : SettingsData) × (admitted (after first changes) text ≡ Ok grown)
+    × (left ≡ changes ++ admit text ∷ strike (after first changes).next ∷ []))

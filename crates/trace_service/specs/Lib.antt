@@ -1,4 +1,5 @@
 pub mod Moments
+pub mod Noted
 pub mod InForce
 pub mod Post
 pub mod Work

@@ -10,29 +10,29 @@ use Rattle.shared_hub.specs.Logs.{CallerState, LoggedShard, AreLogged, AreOneRun
 use Rattle.shared_hub.specs.Shards.{AreOpened}
 use Rattle.tail_settings.specs.Settings.{SettingsData}
 use Rattle.trace_service.specs.Audit.{audit_text, IsFollowed}
-use Rattle.trace_service.specs.Comings.{Present}
-use Rattle.trace_service.specs.Commands.{AreDrained, AreEmptyOn, AreReported, AreCommandsRead}
+use Rattle.trace_service.specs.Comings.{Present, Standing, unchanged}
+use Rattle.trace_service.specs.Commands.{AreDrained, AreEmptyOn, AreReported, AreCommandsRead, AreInForce}
 use Rattle.trace_service.specs.Documents.{Reads}
 use Rattle.trace_service.specs.Jobs.{AreThreads}
 use Rattle.trace_service.specs.Output.{Output}
 
 -- What who reads the input did, by calls of one caller and in this order: all lines of the input were answered, each
 -- tenant that was present then was drained, each was seen to hold no span, and each one's report was written.
-pub record IsDirected (port : Bool) (reads : Reads) (first : SettingsData) (present : Present) (shards : ℕ)
+pub record IsDirected (port : Bool) (reads : Reads) (first : SettingsData) (standing : Standing) (shards : ℕ)
     (input : Option (List ℕ)) (old : CallerState) (before : ℕ) (so_far : Output) (new : CallerState) (last : ℕ)
     (written : Output) : Type 0 where
-  pub left : Present
+  pub left : Standing
   pub after_input : CallerState
   pub input_end : ℕ
   pub text : Output
-  pub heard : AreCommandsRead port reads first shards input present old before so_far left after_input input_end text
+  pub heard : AreCommandsRead port reads first shards input standing old before so_far left after_input input_end text
   pub after_drains : CallerState
   pub drain_end : ℕ
-  pub drained : AreDrained shards after_input input_end (map (λ tenant. tenant.0) left) after_drains drain_end
-  pub empty : AreEmptyOn after_drains shards (map (λ tenant. tenant.0) left)
-  pub told : AreReported shards after_drains drain_end text left new last written
+  pub drained : AreDrained shards after_input input_end (map (λ tenant. tenant.0) left.present) after_drains drain_end
+  pub empty : AreEmptyOn after_drains shards (map (λ tenant. tenant.0) left.present)
+  pub told : AreReported shards after_drains drain_end text left.present new last written
 
--- of a hub's callers, which had made no call, one did that
+-- of a hub's callers, which had made no call, one did that, and nobody changed the settings before
 pub record IsCourse (port : Bool) (reads : Reads) (first : SettingsData) (present : Present) (shards : ℕ)
     (input : Option (List ℕ)) (fresh : CallerState) (so_far : Output) (callers : List CallerState) (written : Output)
     : Type 0 where
@@ -41,7 +41,7 @@ pub record IsCourse (port : Bool) (reads : Reads) (first : SettingsData) (presen
   pub own : CallerState
   pub others : List CallerState
   pub callers_are : callers ≡ own ∷ others
-  pub directed : IsDirected port reads first present shards input fresh before so_far own last written
+  pub directed : IsDirected port reads first (unchanged present) shards input fresh before so_far own last written
 
 -- so it was where the input didn't fail: so many answers were lost, and none before
 abbrev pub IsCourseIfOk : {E : Type 0} → Bool → Reads → SettingsData → Present → ℕ → Option (List ℕ) → CallerState
@@ -49,14 +49,15 @@ abbrev pub IsCourseIfOk : {E : Type 0} → Bool → Reads → SettingsData → P
 IsCourseIfOk port reads first present shards input fresh so_far callers written result =
     IfOk result (λ lost. IsCourse port reads first present shards input fresh (so_far, 0) callers (written, lost))
 
--- What a service did to its shards, and what it wrote, with an admin port or without: there was a hub of the
--- settings' shards, and one of its callers, which had made no call before, read the input and wrote what its calls at
--- these shards gave. All callers' calls at a shard are one run of it, log or not, of which each tenant was told what
--- its pipeline alone answers to its own steps, and from its first want of memory on one history. The other callers were
--- threads', with all seats of one lane: the jobs that were pushed there are those of turns that these callers made,
--- each that was popped is one of them, and so many were popped and so many are left. Where an audit is asked for the
--- logs keep, and their lines were written last, each shard's under its number; else they keep nothing. So many of what
--- was to be written were lost: where that is none, all was written.
+-- What a service did to its shards, and what it wrote, with an admin port or without: there was a hub of the settings'
+-- shards, and one of its callers, which had made no call before, read the input and wrote what its calls at these
+-- shards gave; who was present at the input's end are the tenants of the settings that its changes made. All callers'
+-- calls at a shard are one run of it, log or not, of which each tenant was told what its pipeline alone answers to its
+-- own steps, and from its first want of memory on one history. The other callers were threads', with all seats of one
+-- lane: the jobs that were pushed there are those of turns that these callers made, each that was popped is one of
+-- them, and so many were popped and so many are left. Where an audit is asked for the logs keep, and their lines were
+-- written last, each shard's under its number; else they keep nothing. So many of what was to be written were lost:
+-- where that is none, all was written.
 pub record IsServed (port : Bool) (reads : Reads) (table : SettingsData) (audit : Bool)
     (input so_far written : Option (List ℕ)) (lost : ℕ) : Type 0 where
   pub slots : List TableId
@@ -66,6 +67,7 @@ pub record IsServed (port : Bool) (reads : Reads) (table : SettingsData) (audit 
   pub text : Output
   pub course : IsCourse port reads table (names_in table).tenants table.global.shards input (new_caller slots homes)
       (so_far, 0) callers text
+  pub in_force : AreInForce table course.directed.left
   pub shards : List LoggedShard
   pub calls : AreShardRuns MachineDoes homes callers shards
   pub one_run : AreOneRun table callers

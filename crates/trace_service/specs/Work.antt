@@ -1,5 +1,6 @@
 -- What the contexts of threads do to the shards. This project's own rule.
 use Rattle.std.specs.Prelude.{◌≡◌, ℕ, ◌%◌, [], ◌⊎◌, Option}
+use Rattle.atomic_table.specs.Seated.{TableId}
 use Rattle.export_edge.specs.declared.work.TurnResult.{TurnResult}
 use Rattle.export_edge.specs.declared.work.TurnResult.TheVariants as turned
 use Rattle.export_edge.specs.Work.{Turn, Given}
@@ -38,9 +39,9 @@ pub record TakesAnswer (old new : CallerState) (shards : ℕ) (g : Given) : Type
 abbrev pub RefusesAnswer : CallerState → CallerState → ℕ → Given → Type 0
 RefusesAnswer old new shards g = (new ≡ old) ⊎ IsRefusedOn old new (g.tenant % shards)
 
--- the name of no lane
-abbrev pub no_lane : LaneName
-no_lane = lane_name (record {
+-- the name of no table
+abbrev pub no_table : TableId
+no_table = record {
   words = 0;
   slots = 0;
   views_name = 0;
@@ -48,4 +49,8 @@ no_lane = lane_name (record {
   block = 0;
   offset = 0;
   slot_names = [];
-}) 0
+}
+
+-- the name of no lane
+abbrev pub no_lane : LaneName
+no_lane = lane_name no_table 0

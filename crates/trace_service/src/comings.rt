@@ -3,14 +3,11 @@
 ghost use Rattle.std.specs.Prelude.{◌≡◌, ◌<◌, ◌%◌, Ok, length, string_bytes, vec_len, vec_capacity, true, false, IfOk, IfErr};
 ghost use Rattle.std.specs.IoError.{error_kind};
 ghost use Rattle.shared_hub.specs.Logs.{IsEmptyOn};
-ghost use Rattle.tail_settings.specs.Change.{admitted_table};
 ghost use Rattle.tail_settings.specs.Fault.{fault_view};
-ghost use Rattle.tail_settings.specs.Settings.{SettingsData, document_view};
-ghost use Rattle.trace_service.specs.Comings.{IsAdded, IsJoined, IsNotJoined, not_added_text, why_not};
+ghost use Rattle.trace_service.specs.Comings.{IsAdded, IsJoined, IsNotJoined, IsStruck, not_added_text, why_not};
 ghost use Rattle.trace_service.specs.Commands.{left_by, stays};
-ghost use Rattle.trace_service.specs.Control.{Adds, RetiresNamed};
+ghost use Rattle.trace_service.specs.Control.{Adds, RetiresNamed, standing_of, standing_with};
 ghost use Rattle.trace_service.specs.Documents.{IsOfReading, IsUnread};
-ghost use Rattle.trace_service.specs.InForce.{CameOf, IsNewcomer, IsNewcomerBy, IsTurnedAway, IsTurnedAwayBy};
 ghost use Rattle.trace_service.specs.Roster.{present_in};
 ghost use Rattle.trace_service.specs.declared.comings.NotAdded.TheVariants as why;
 
@@ -19,6 +16,7 @@ use crate::control::Control;
 use crate::documents::Documents;
 use crate::in_force::Newcomer;
 use crate::naming::Naming;
+use crate::registrar::Registrar;
 use crate::reports::{CommandReply, write_text};
 use crate::roster::Roster;
 use export_edge::Beat;
@@ -29,7 +27,7 @@ use std::net::{Net, TcpListener, TcpStream};
 use std::sync::Wait;
 use std::time::Clock;
 use std::{io, str};
-use tail_settings::{Document, SettingsFault};
+use tail_settings::SettingsFault;
 use tenant_shard::{Outcome, Step};
 
 /// What is told where a file can't be read, or has no text: that it has no document.
@@ -114,18 +112,19 @@ where
     /// The line of the tenant that came whose document is in the file at this path.
     fn let_in(&mut self, roster: &mut Roster, path: &[u8]) -> Result<Vec<u8>, NotAdded>
         ensures added { IfOk result (λ line. IsAdded D.reads J.first
-            (length self.old.context.hub.now) path.now (present_in roster.old)
-            self.old.context.caller (present_in roster.new) self.new.context.caller line.items) }
+            (length self.old.context.hub.now) path.now (standing_of self.old roster.old)
+            self.old.context.caller (standing_of self.new roster.new) self.new.context.caller
+            line.items) }
         ensures not_added { IfErr result
             (λ why. IsAdded D.reads J.first (length self.old.context.hub.now) path.now
-            (present_in roster.old) self.old.context.caller (present_in roster.new)
-            self.new.context.caller (not_added_text why)) }
+            (standing_of self.old roster.old) self.old.context.caller
+            (standing_of self.new roster.new) self.new.context.caller (not_added_text why)) }
         ensures last { self.new.beat.last ≡ self.old.beat.last }
         ensures hub { self.new.context.hub ≡ self.old.context.hub }
     {
         let text = self.document(path)?;
         roster.reserve()?;
-        let newcomer = self.newcomer(text.as_str())?;
+        let newcomer = self.registrar.newcomer(self.alloc, text.as_str())?;
         self.join(roster, newcomer)
     }
 
@@ -144,41 +143,18 @@ where
         }
     }
 
-    /// The tenant of a document, let in by the settings in force. No lock is held while the text is parsed.
-    fn newcomer(&self, text: &str) -> Result<Newcomer, SettingsFault>
-        ensures on_success { IfOk result (λ newcomer. (now : SettingsData) × CameOf J.first now
-            × IsNewcomer now text.now newcomer) }
-        ensures fault { IfErr result (λ e. (now left : SettingsData) × CameOf J.first now
-            × CameOf J.first left
-            × IsTurnedAway now text.now (fault_view e) left) }
-    {
-        let document = Document::parse(self.alloc, text)?;
-        self.admit(&document)
-    }
-
-    /// The same of a document that was parsed. The settings are locked while its keys are read, and it isn't freed
-    /// meanwhile.
-    fn admit(&self, document: &Document) -> Result<Newcomer, SettingsFault>
-        ensures on_success { IfOk result (λ newcomer. (now : SettingsData) × CameOf J.first now
-            × IsNewcomerBy (admitted_table now (document_view document.now)) now newcomer) }
-        ensures fault { IfErr result (λ e. (now left : SettingsData) × CameOf J.first now
-            × CameOf J.first left
-            × IsTurnedAwayBy (admitted_table now (document_view document.now)) now (fault_view e)
-            left) }
-    {
-        self.settings.lock(self.rt).admit(self.alloc, document)
-    }
-
     /// Has a newcomer join its shard: the line that says so. Where it can't, the settings forget it.
     fn join(&mut self, roster: &mut Roster, newcomer: Newcomer) -> Result<Vec<u8>, NotAdded>
         requires { vec_len roster.old.tenants < vec_capacity roster.old.tenants }
         ensures joined { IfOk result (λ line. IsJoined (length self.old.context.hub.now) newcomer
             (present_in roster.old) self.old.context.caller (present_in roster.new)
-            self.new.context.caller line.items) }
+            self.new.context.caller line.items
+            × (self.new.registrar ≡ self.old.registrar)) }
         ensures not_joined { IfErr result
             (λ why. IsNotJoined (length self.old.context.hub.now) newcomer self.old.context.caller
             self.new.context.caller why
-            × (present_in roster.new ≡ present_in roster.old)) }
+            × IsStruck newcomer (standing_of self.old roster.old)
+            (standing_of self.new roster.new)) }
         ensures last { self.new.beat.last ≡ self.old.beat.last }
         ensures hub { self.new.context.hub ≡ self.old.context.hub }
     {
@@ -193,7 +169,7 @@ where
         };
         match self.context.step(number, step) {
             Ok(Outcome::Refused(_, reason)) => {
-                self.strike(number);
+                self.registrar.strike(number);
                 Err(NotAdded::Refused(reason))
             }
             Ok(_) => {
@@ -205,7 +181,7 @@ where
                 Ok(line)
             }
             Err(HubFault::OutOfMemory) => {
-                self.strike(number);
+                self.registrar.strike(number);
                 Err(NotAdded::OutOfMemory)
             }
             Err(HubFault::Behind { .. } | HubFault::OtherEntry { .. }) => unreachable!(),
@@ -239,7 +215,7 @@ where
             name: tenant.name.as_str(),
             outcome: &outcome,
         });
-        self.let_go(roster, number, &outcome);
+        let_go(&mut self.registrar, roster, number, &outcome);
         write_text(output, line.as_slice(), lost);
     }
 
@@ -251,6 +227,7 @@ where
         ensures caller { self.new.context.caller ≡ self.old.context.caller }
         ensures last { self.new.beat.last ≡ self.old.beat.last }
         ensures hub { self.new.context.hub ≡ self.old.context.hub }
+        ensures changes { self.new.registrar ≡ self.old.registrar }
     {
         'looks: for _ in self.rt.forever() {
             if self.context.is_empty(tenant) {
@@ -263,22 +240,23 @@ where
         }
         unreachable!()
     }
+}
 
-    /// After its retirement the tenant of this number is present no more, unless it stays.
-    fn let_go(&self, roster: &mut Roster, number: u32, outcome: &Outcome)
-        ensures { present_in roster.new ≡ left_by outcome.now number (present_in roster.old) }
-    {
-        if stays(outcome) {
-            return;
-        }
-        self.strike(number);
-        roster.remove(number);
+/// After its retirement the tenant of this number is present no more, and is struck, unless it stays.
+fn let_go<J: Naming, R: Wait>(
+    registrar: &mut Registrar<'_, J, R>,
+    roster: &mut Roster,
+    number: u32,
+    outcome: &Outcome,
+)
+    ensures { standing_with roster.new registrar.new ≡ left_by outcome.now number
+        (standing_with roster.old registrar.old) }
+{
+    if stays(outcome) {
+        return;
     }
-
-    /// Takes the tenant of this number out of the settings in force.
-    fn strike(&self, number: u32) {
-        self.settings.lock(self.rt).strike(number);
-    }
+    registrar.strike(number);
+    roster.remove(number);
 }
 
 /// Whether a tenant that was to go stays, since it wasn't empty.

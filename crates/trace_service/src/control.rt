@@ -14,9 +14,9 @@ use crate::context::WorkerContext;
 use crate::course::{Observer, Stage};
 use crate::documents::Documents;
 use crate::entrance::wake_at_last;
-use crate::in_force::InForce;
 use crate::input::{Line, next_line};
 use crate::naming::Naming;
+use crate::registrar::Registrar;
 use crate::reports::{CommandReply, line_of, write_text};
 use crate::roster::{Present, Roster};
 use crate::service::ServiceFault;
@@ -26,7 +26,7 @@ use std::alloc::{AllocError, Global};
 use std::io::{BufRead, Write};
 use std::mem;
 use std::net::{Net, TcpListener, TcpStream};
-use std::sync::{Mutex, Wait};
+use std::sync::Wait;
 use std::time::Clock;
 use tenant_shard::Outcome;
 
@@ -35,7 +35,7 @@ use tenant_shard::Outcome;
 pub(crate) struct Control<'h, J: Naming, R, D> {
     pub rt: &'h R,
     pub alloc: Global,
-    pub settings: &'h Mutex<InForce<J>>,
+    pub registrar: Registrar<'h, J, R>,
     pub roster: Roster,
     pub documents: &'h D,
     pub listener: &'h TcpListener,
@@ -159,6 +159,7 @@ where
         ensures reported { ReportsNamed name.now roster.now self.old
             (O.contents output.old, lost.old) self.new (O.contents output.new, lost.new) }
         ensures hub { self.new.context.hub ≡ self.old.context.hub }
+        ensures changes { self.new.registrar ≡ self.old.registrar }
     {
         if let Some(tenant) = roster.find(name) {
             self.print_report(output, lost, tenant);
@@ -170,6 +171,7 @@ where
         ensures reported { Reports tenant.now self.old (O.contents output.old, lost.old) self.new
             (O.contents output.new, lost.new) }
         ensures hub { self.new.context.hub ≡ self.old.context.hub }
+        ensures changes { self.new.registrar ≡ self.old.registrar }
     {
         let outcome = self.make(tenant.number, Chore::Report);
         let line = self.line_again(CommandReply::Outcome {
@@ -222,6 +224,7 @@ where
             (length self.old.context.hub.now) tenant self.old.beat.last self.new.beat.last
             (step_of chore tenant) result }
         ensures hub { self.new.context.hub ≡ self.old.context.hub }
+        ensures changes { self.new.registrar ≡ self.old.registrar }
     {
         'attempts: for _ in self.rt.forever() {
             let now = self.beat.now();
@@ -243,6 +246,7 @@ where
         ensures caller { self.new.context.caller ≡ self.old.context.caller }
         ensures hub { self.new.context.hub ≡ self.old.context.hub }
         ensures last { self.new.beat.last ≡ self.old.beat.last }
+        ensures changes { self.new.registrar ≡ self.old.registrar }
     {
         'attempts: for _ in self.rt.forever() {
             match line_of(self.alloc, reply) {

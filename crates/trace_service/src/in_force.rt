@@ -1,16 +1,18 @@
 //! The settings in force, which all threads share under a lock.
 
-ghost use Rattle.std.specs.Prelude.{◌≡◌, Ok, IfOk, OnOk, IfErr, IfSome, IsSome, map, option_map, string_bytes};
+ghost use Rattle.std.specs.Prelude.{◌≡◌, ◌∷◌, ◌++◌, [], Ok, IfOk, IfErr, IfSome, IsSome, map, option_map, string_bytes};
 ghost use Rattle.http_edge.specs.Seen.{seen};
 ghost use Rattle.otlp_front.specs.Route.{names_in, route_of};
-ghost use Rattle.tail_settings.specs.Change.{admitted_table, struck};
+ghost use Rattle.tail_settings.specs.Change.{after, strike};
 ghost use Rattle.tail_settings.specs.Fault.{fault_view};
 ghost use Rattle.tail_settings.specs.Section.{section_view};
-ghost use Rattle.tail_settings.specs.Settings.{document_view, number_of, settings_view, tenant_at, section_at};
-ghost use Rattle.trace_service.specs.InForce.{CameOf, IsNewcomerBy, IsTenant, IsTurnedAwayBy, IsWhere};
+ghost use Rattle.tail_settings.specs.Settings.{document_in, document_view, number_of, settings_view, tenant_at, section_at};
+ghost use Rattle.toml.specs.Parse.{parse_document};
+ghost use Rattle.trace_service.specs.InForce.{CameOf, IsLetIn, IsTenant, IsTurnedAway, IsWhere};
 ghost use Rattle.trace_service.specs.Roster.{entry_of};
 
 use crate::naming::Naming;
+use crate::noted::{ChangeList, Noted};
 use crate::roster::{Present, tenants_of};
 use crate::tally::Tally;
 use arrayvec::ArrayString;
@@ -18,7 +20,6 @@ use export_edge::{Address, Addresses};
 use http_edge::HttpMessage;
 use otlp_front::{Route, RouteRefusal, route};
 use std::alloc::{AllocError, Global};
-use std::marker::PhantomData;
 use std::sync::{Mutex, Wait};
 use tail_settings::{Document, Section, Settings, SettingsFault};
 
@@ -39,24 +40,23 @@ pub(crate) struct Newcomer {
     pub section: Section,
 }
 
-/// The settings in force: those at the start, with the changes that were made since.
+/// The settings in force: those at the start, with the changes that were made since. Who makes these knows them too.
 #[derive(Drop)]
 pub(crate) struct InForce<J: Naming> {
     settings: Settings,
-    of: PhantomData<J>,
+    noted: Noted<J>,
     ghost came: { CameOf J.first (settings_view settings) },
+    ghost as_noted: { settings_view settings ≡ after J.first noted },
 }
 
 impl<J: Naming> InForce<J> {
     /// The settings at the start.
-    pub fn new(settings: Settings) -> InForce<J>
-        requires { settings_view settings ≡ J.first }
+    pub fn new(settings: Settings, noted: Noted<J>) -> InForce<J>
+        requires first { settings_view settings ≡ J.first }
+        requires no_change { noted ≡ [] }
         ensures { result.settings ≡ settings }
     {
-        InForce {
-            settings,
-            of: PhantomData,
-        }
+        InForce { settings, noted }
     }
 
     /// For how long, in milliseconds, spans of the tenant with this number may wait until a batch has them.
@@ -143,24 +143,29 @@ impl<J: Naming> InForce<J> {
         }
     }
 
-    /// Lets in the one tenant of a document, which gets the next number. Where memory is refused for what is told of
-    /// it, it is taken out again.
-    pub fn admit(&mut self, alloc: Global, document: &Document) -> Result<Newcomer, SettingsFault>
-        ensures on_success { let now = settings_view self.old.settings in
-            IfOk result (λ newcomer. IsNewcomerBy (admitted_table now (document_view document.now))
-            now newcomer) }
-        ensures grown { let now = settings_view self.old.settings in
-            OnOk result (admitted_table now (document_view document.now)
-            ≡ Ok (settings_view self.new.settings)) }
-        ensures fault { let now = settings_view self.old.settings in
-            IfErr result (λ e. IsTurnedAwayBy (admitted_table now (document_view document.now))
-            now (fault_view e) (settings_view self.new.settings)) }
+    /// Lets in the one tenant of a text's document, which gets the next number. Where memory is refused for what is
+    /// told of it, it is taken out again.
+    pub fn admit(
+        &mut self,
+        alloc: Global,
+        list: &ChangeList<J>,
+        known: &mut Noted<J>,
+        text: &str,
+        document: &Document,
+    ) -> Result<Newcomer, SettingsFault>
+        requires { document_in (parse_document text.now) ≡ Ok (document_view document.now) }
+        ensures on_success { IfOk result (λ newcomer. IsLetIn J.first known.old text.now newcomer
+            known.new) }
+        ensures fault { IfErr result (λ e. IsTurnedAway J.first known.old text.now (fault_view e)
+            known.new) }
     {
+        list.agree(&mut self.noted, known);
         let number = self.settings.admit_document(alloc, document)?;
+        list.admit(&mut self.noted, known, text);
         match self.newcomer(alloc, number) {
             Ok(newcomer) => Ok(newcomer),
             Err(error) => {
-                self.strike(number);
+                self.strike(list, known, number);
                 Err(SettingsFault::from(error))
             }
         }
@@ -189,10 +194,10 @@ impl<J: Naming> InForce<J> {
     }
 
     /// Takes out the tenant with this number, where there is one. Nobody else gets the number.
-    pub fn strike(&mut self, number: u32)
-        ensures { settings_view self.new.settings ≡ struck (settings_view self.old.settings)
-            number }
+    pub fn strike(&mut self, list: &ChangeList<J>, known: &mut Noted<J>, number: u32)
+        ensures { known.new ≡ known.old ++ strike number ∷ [] }
     {
+        list.strike(&mut self.noted, known, number);
         self.settings.strike(number);
     }
 

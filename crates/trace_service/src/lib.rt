@@ -8,11 +8,13 @@
 //!
 //! It stands on `shared_hub` for the shards, on `export_edge` and `job_lane` for jobs, on `http_edge`, `otlp_front` and
 //! `otlp_prepare` for bodies, on `http_line` for connections, on `tail_settings` for what it serves under, on
-//! `settings_check` for what is told of a document, on `admin_pages` and `admin_page` for what its admin port
-//! shows, and on `replay_script` for how a report is spelled. How it starts and ends is this project's own.
+//! `agreed_list` for what is known of its changes, on `settings_check` for what is told of a document, on
+//! `admin_pages` and `admin_page` for what its admin port shows, and on `replay_script` for how a report is spelled.
+//! How it starts and ends is this project's own.
 #![tactic(auto)]
 
 ghost use Rattle.trace_service.specs.BodyMemory.{CountsCoverBodies};
+ghost use Rattle.trace_service.specs.Commands.{TenantsAreInForce};
 ghost use Rattle.trace_service.specs.Jobs.{PoppedWereGiven};
 ghost use Rattle.trace_service.specs.LastAnswers.{AreToldAsNoted, IsNothingTold};
 ghost use Rattle.trace_service.specs.Post.{StatusesAgree};
@@ -47,12 +49,14 @@ mod last_answers;
 mod lingering;
 mod memory;
 mod naming;
+mod noted;
 mod notice;
 mod options;
 mod pace;
 mod patient;
 mod post;
 mod receiving;
+mod registrar;
 mod reports;
 mod reserve;
 mod rest;
@@ -83,6 +87,13 @@ pub fn popped_jobs_were_given()
 {
     job_lane::pops_were_pushed();
 }
+
+/// Behind each line of the input those whom its reader has in its list are the tenants of the settings in force, which
+/// all changes until then made of those at the start: so who was let in is there until it goes. A law over what a
+/// service comes to.
+pub fn tenants_are_in_force<D: Documents>()
+    ensures { TenantsAreInForce D.reads }
+{}
 
 /// A message that is refused before its body is looked at and one that is refused after are told why in one spelling: a
 /// law over two definitions.

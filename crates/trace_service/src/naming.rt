@@ -21,12 +21,15 @@ pub(crate) trait Naming {
 
     // the settings at the start
     ghost first: { SettingsData };
+
+    // the list of the changes that were made of them
+    ghost list: { TableId };
 }
 
 impl Naming for Brand {
     ghost use Rattle.std.specs.Prelude.{[]};
     ghost use Rattle.trace_service.specs.InForce.{no_settings};
-    ghost use Rattle.trace_service.specs.Work.{no_lane};
+    ghost use Rattle.trace_service.specs.Work.{no_lane, no_table};
 
     ghost slots = { [] };
 
@@ -35,4 +38,6 @@ impl Naming for Brand {
     ghost fresh = { [] };
 
     ghost first = { no_settings };
+
+    ghost list = { no_table };
 }

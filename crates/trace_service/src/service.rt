@@ -1,8 +1,9 @@
 //! The service, from its start to its end.
 
-ghost use Rattle.std.specs.Prelude.{◌≡◌, ◌<◌, ◌+◌, length, All, IfOk, is_some, replicate, vec_len};
+ghost use Rattle.std.specs.Prelude.{◌≡◌, ◌<◌, ◌+◌, [], length, All, IfOk, is_some, replicate, vec_len};
 ghost use Rattle.std.specs.IoError.{error_kind};
 ghost use Rattle.std.specs.Thread.{IsSync};
+ghost use Rattle.agreed_list.specs.Agreed.{half_of};
 ghost use Rattle.job_lane.specs.Lane.{new_seat};
 ghost use Rattle.machine_hub.specs.Hub.{AreCallersOf, AreShardRuns, new_caller};
 ghost use Rattle.shared_hub.specs.Logs.{AreLogged, AreOneRun, AreOneHistory};
@@ -25,12 +26,15 @@ use crate::course::{Observer, Stage};
 use crate::documents::Documents;
 use crate::in_force::InForce;
 use crate::naming::Naming;
+use crate::noted::{Change, ChangeList, Noted};
 use crate::options::ServiceOptions;
+use crate::registrar::Registrar;
 use crate::reports::write_audit;
 use crate::roster::Roster;
 use crate::shared::{ServiceLimits, Shared, Workplace};
 use crate::start::{Console, ServiceStart};
 use crate::workers::{Worker, work_all};
+use agreed_list::{AgreedList, Half};
 use job_lane::{Lane, LaneKeeper, LaneSeat};
 use shared_hub::{Caller, HubFault, HubKeeper, ShardLog, SharedHub};
 use std::alloc::AllocError;
@@ -132,6 +136,7 @@ where
         keys,
     )?;
     let (lane, lane_keeper, seats) = Lane::open(start.alloc, lane_size, workers)?;
+    let changes = AgreedList::open(start.alloc)?;
     let opened = Opened {
         hub,
         keeper,
@@ -139,11 +144,13 @@ where
         lane,
         lane_keeper,
         seats,
+        changes,
     };
     run_named::<Brand, R, D, I, O, L>(start, settings, limits, opened, console)
 }
 
-/// A hub and a lane, with what they are closed with, a caller for each thread, and a seat for each that works.
+/// A hub and a lane, with what they are closed with, a caller for each thread, and a seat for each that works; and a
+/// list of changes, with a half for who makes them and one for the settings in force.
 #[derive(Drop)]
 struct Opened {
     hub: SharedHub,
@@ -152,6 +159,7 @@ struct Opened {
     lane: Lane,
     lane_keeper: LaneKeeper,
     seats: Vec<LaneSeat>,
+    changes: (AgreedList<Change>, Half<Change>, Half<Change>),
 }
 
 /// Runs the service that is opened, with a name for its hub, its lane and its settings, and closes what was opened.
@@ -176,6 +184,9 @@ where
     requires lane { opened.lane.name ≡ J.lane }
     requires room { opened.lane.capacity ≡ settings.global.lane_size }
     requires lane_keeper { opened.lane_keeper ≡ opened.lane.name }
+    requires changes { opened.changes.0 ≡ J.list }
+    requires own { opened.changes.1 ≡ half_of J.list [] }
+    requires other { opened.changes.2 ≡ half_of J.list [] }
     requires seats { All (λ s. s ≡ new_seat J.lane) opened.seats.items }
     requires all_seats { vec_len opened.seats ≡ opened.lane_keeper.seats }
     requires opened { AreOpened (settings_view settings) opened.keeper.homes }
@@ -198,12 +209,17 @@ where
         lane,
         lane_keeper,
         seats,
+        changes,
     } = opened;
+    let (list, own, other) = changes;
     let roster = Roster::of(start.alloc, &settings)?;
-    let workplace = Workplace::<J>::new(start.alloc, settings, hub, lane, &limits)?;
+    let settings = InForce::<J>::new(settings, Noted::<J>::new(other));
+    let list = ChangeList::<J>::new(list);
+    let workplace = Workplace::<J>::new(start.alloc, settings, list, hub, lane, &limits)?;
+    let noted = Noted::<J>::new(own);
     // All that is lent together is lent for as long as the workplace stands.
     let (callers, seats, ended) = at_work::<J, R, D, I, O, L>(
-        &*start, &workplace, limits, roster, callers, seats, console,
+        &*start, &workplace, limits, roster, noted, callers, seats, console,
     )?;
     console.observer.observe(Stage::Ended);
     let Workplace { hub, lane, .. } = workplace;
@@ -253,6 +269,7 @@ fn at_work<'h, J, R, D, I, O, L>(
     workplace: &'h Workplace<J>,
     limits: ServiceLimits,
     roster: Roster,
+    noted: Noted<J>,
     mut callers: Vec<Caller>,
     seats: Vec<LaneSeat>,
     console: &mut Console<I, O, L>,
@@ -271,6 +288,7 @@ where
     requires not_empty { 0 < vec_len callers }
     requires enough { vec_len callers ≡ 1 + vec_len seats }
     requires new { All (λ c. c ≡ J.fresh) callers.items }
+    requires no_change { noted ≡ [] }
     ensures same_hub { IfOk result (λ r. AreCallersOf J.slots r.0.items) }
     ensures all { IfOk result (λ r. vec_len r.0 ≡ vec_len callers) }
     ensures same_lane { IfOk result (λ r. All (λ s. s.lane ≡ J.lane) r.1.items) }
@@ -293,7 +311,7 @@ where
     let mut control = Control {
         rt: shared.rt,
         alloc: shared.alloc,
-        settings: shared.settings,
+        registrar: Registrar::new(shared.rt, shared.settings, &workplace.list, noted),
         roster,
         documents: start.documents,
         listener: shared.entrance.listener(),

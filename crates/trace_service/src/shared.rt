@@ -2,7 +2,6 @@
 
 ghost use Rattle.std.specs.Prelude.{◌≡◌, ◌<◌, ◌≤◌, None, IfOk, length, unwrap_or, if◌then◌else◌};
 ghost use Rattle.machine_hub.specs.Hub.{slots_of};
-ghost use Rattle.tail_settings.specs.Settings.{settings_view};
 
 use crate::admin_port::{ADMINS, AdminEntrance, admin_entrance_of};
 use crate::beat::{ServiceBeat, Signals};
@@ -10,6 +9,7 @@ use crate::context::WorkerContext;
 use crate::entrance::Entrance;
 use crate::in_force::InForce;
 use crate::naming::Naming;
+use crate::noted::ChangeList;
 use crate::options::ServiceOptions;
 use crate::start::ServiceStart;
 use crate::visit::Patience;
@@ -20,7 +20,7 @@ use std::io;
 use std::net::TcpListener;
 use std::sync::{Mutex, Wait};
 use std::time::{Clock, Duration, Instant};
-use tail_settings::{GlobalSettings, Settings};
+use tail_settings::GlobalSettings;
 
 /// How many threads there are of a kind, how long they wait for those outside, and how much they hold of what comes.
 /// It stays as the settings change.
@@ -88,6 +88,8 @@ fn admins_of(is_looked_after: bool) -> u32
 #[derive(Drop)]
 pub(crate) struct Workplace<J: Naming> {
     pub settings: Mutex<InForce<J>>,
+    /// The changes that were made of them.
+    pub list: ChangeList<J>,
     pub hub: SharedHub,
     pub lane: Lane,
     pub signals: Signals,
@@ -97,19 +99,19 @@ impl<J: Naming> Workplace<J> {
     /// One under these settings and with these limits, at which nobody is yet.
     pub fn new(
         alloc: Global,
-        settings: Settings,
+        settings: InForce<J>,
+        list: ChangeList<J>,
         hub: SharedHub,
         lane: Lane,
         limits: &ServiceLimits,
     ) -> Result<Workplace<J>, AllocError>
-        requires { settings_view settings ≡ J.first }
         ensures hub { IfOk result (λ w. w.hub ≡ hub) }
         ensures lane { IfOk result (λ w. w.lane ≡ lane) }
     {
-        let settings = InForce::<J>::new(settings);
         let signals = Signals::new(alloc, hub.shards(), limits.senders, limits.body_memory)?;
         Ok(Workplace {
             settings: Mutex::new(settings),
+            list,
             hub,
             lane,
             signals,

@@ -3,4 +3,4 @@ use Rattle.tail_settings.specs.Settings.{settings_view}
 use Rattle.trace_service.proofs.service.run_service.Given as goal
 
 abbrev pub ghosts-run_named : goal.ghosts-run_named
-ghosts-run_named g a = record { slots = a.opened.hub; lane = a.opened.lane.name; fresh = new_caller a.opened.hub a.opened.keeper.homes; first = settings_view a.settings }
+ghosts-run_named g a = record { slots = a.opened.hub; lane = a.opened.lane.name; fresh = new_caller a.opened.hub a.opened.keeper.homes; first = settings_view a.settings; list = a.opened.changes.0 }

@@ -10,7 +10,7 @@ pub returns-in-Err-Refused-clause-added : goal.returns-in-Err-Refused-clause-add
 returns-in-Err-Refused-clause-added g c =
     let told = c.line_again-line.ensures in (
       not_added_text (Refused c.in-Err-Refused.number),
-      rw told.caller (rw c.in-Err-Refused.field-0-is at c.in-Err-Refused.ensures.not_added),
+      rw (told.caller, told.changes) (rw c.in-Err-Refused.field-0-is at c.in-Err-Refused.ensures.not_added),
       rw (c.as_slice-in-Err-Refused.ensures.value, told.line) at c.write_text-in-Err-Refused.ensures,
     )
 

@@ -1,5 +1,5 @@
 use Rattle.std.proofs.Common.{is_some, length, ◌∙◌}
-use Rattle.trace_service.specs.Roster.{present_in}
+use Rattle.trace_service.specs.Control.{standing_of}
 use Rattle.trace_service.proofs.Coursed.{directed}
 use Rattle.trace_service.proofs.control.Control.go_through.Goals as goal
 
@@ -14,8 +14,8 @@ returns g c =
     let drained = c.drain_all.ensures in
     let waited = c.await_empty.ensures in
     let hub = drained.hub ∙ heard.hub in
-    directed (is_some c.args.self.now.admin) g.D.Documents.reads c.read_commands-heard.result _ g.J.Naming.first (length c.args.self.now.context.hub.now) (present_in c.args.self.now.roster)
-    c.read_commands-heard.new.roster.tenants.items _ _
+    directed (is_some c.args.self.now.admin) g.D.Documents.reads c.read_commands-heard.result _ g.J.Naming.first (length c.args.self.now.context.hub.now) (standing_of c.args.self.now c.args.self.now.roster)
+    c.read_commands-heard.new.roster.tenants.items c.read_commands-heard.new.self.registrar _ _
     (g.O.Write.contents c.read_commands-heard.new.output, c.read_commands-heard.new.lost) _
     _ c.read_commands-heard.new.self.context.caller c.drain_all.new.self.context.caller _
     _ c.read_commands-heard.new.self.beat.last c.drain_all.new.self.beat.last _

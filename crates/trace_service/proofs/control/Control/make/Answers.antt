@@ -6,7 +6,7 @@ use Rattle.trace_service.proofs.Rising.{rises_more, rises_same}
 use Rattle.trace_service.proofs.control.Control.make.Goals as goal
 
 pub attempts-init : goal.attempts-init
-attempts-init g c = record { hub = refl; tried = ([], refl, refl) }
+attempts-init g c = record { hub = refl; changes = refl; tried = ([], refl, refl) }
 
 pub attempts-preserved : goal.attempts-preserved
 attempts-preserved g c =
@@ -16,6 +16,7 @@ attempts-preserved g c =
     let more = rises_more _ _ c.now-now.result _ tried.0 tried.2 c.now-now.ensures in
     record {
       hub = c.want.ensures.hub ∙ c.step.ensures.hub ∙ before.hub;
+      changes = before.changes;
       tried = (
         tried.0 ++ c.now-now.result ∷ [],
         through_more (λ (s : CallerState) (now : ℕ) (t : CallerState). IsRefusedOn s t (c.args.tenant % n)) _ _ _ tried.0 c.now-now.result tried.1

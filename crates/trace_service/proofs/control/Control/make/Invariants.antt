@@ -8,6 +8,7 @@ use Rattle.trace_service.proofs.control.Control.make.Given as goal
 abbrev pub invariant-attempts : goal.invariant-attempts
 invariant-attempts g l = record {
   hub : l.self.context.hub ≡ l.fn.self.context.hub;
+  changes : l.self.registrar ≡ l.fn.self.registrar;
   tried : (refusals : List ℕ) × Through (λ (s : CallerState) (now : ℕ) (t : CallerState). IsRefusedOn s t (l.tenant % length l.fn.self.context.hub.now)) l.fn.self.context.caller refusals l.self.context.caller
       × Rises l.fn.self.beat.last refusals l.self.beat.last;
 }

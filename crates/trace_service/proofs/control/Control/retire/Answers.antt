@@ -14,6 +14,6 @@ returns-clause-retired g c =
       empty = rw drained.hub at seen.empty;
       outcome = c.make-outcome.result;
       made = rw (told.last, told.caller) (rw (seen.hub ∙ drained.hub, seen.caller, seen.last) at c.make-outcome.ensures.made);
-      left_are = c.let_go.ensures;
+      left_are = rw (told.changes ∙ c.make-outcome.ensures.changes ∙ seen.changes ∙ drained.changes) at c.let_go.ensures;
       line = rw (c.as_slice.ensures.value, told.line, c.as_str.ensures.value, c.in-Some.ensures.name) at c.write_text.ensures;
     })
