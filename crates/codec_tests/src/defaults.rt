@@ -127,9 +127,9 @@ a_key_of_128_bytes_behind_its_value \
 two_keys_behind_a_value 4a0b12030a01760a016a0a016b 4a080a016b12030a0176\n\
 a_value_before_its_key_and_an_empty_parent 22004a0812030a01760a016b5000 4a080a016b12030a0176\n\
 two_values_before_a_key 4a0d12030a017612030a01760a016b none\n\
-a_value_before_its_key_and_a_field_that_is_not_known 4a0a12030a01760a016b1801 none\n\
+a_value_before_its_key_and_a_field_that_is_not_known 4a0a12030a01760a016b1801 4a0a0a016b12030a01761801\n\
 a_key_that_is_not_utf_8_behind_its_value 4a0812030a01760a01ff none\n\
-a_value_of_two_members_before_its_key 4a0a12050a017610010a016b none\n\
+a_value_of_two_members_before_its_key 4a0a12050a017610010a016b 4a070a016b12021001\n\
 a_value_before_a_key_behind_an_event 5a004a0812030a01760a016b none\n\
 a_string_that_is_not_utf_8_before_its_key 4a0812030a01ff0a016b none\n\
 # An event's name before its time, as that client writes it.\n\

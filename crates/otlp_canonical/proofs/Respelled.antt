@@ -14,29 +14,31 @@ use Rattle.otlp_trace.specs.Data.{AnyValueData, array, kvlist, ArrayValueData, K
 use Rattle.otlp_trace.specs.Text.{bytes_field, some_bytes}
 use Rattle.otlp_trace.proofs.Spelled.{bytes_within}
 use Rattle.otlp_read.specs.declared.fault.ReadFault.{ReadFault}
-use Rattle.otlp_read.specs.AnyValue.{no_value, no_array, no_list, no_key_value, choose, keep_any, with_value, with_key_value, with_key, any_step_in, array_step_in, list_step_in, key_value_step, read_any, read_array, read_list}
-use Rattle.otlp_read.specs.Nested.{known_of_any}
+use Rattle.otlp_read.specs.AnyValue.{no_value, no_array, no_list, no_key_value, choose, keep_any, keep_key_value, with_value, with_key_value, with_key, any_step_in, array_step_in, list_step_in, key_value_step, read_any, read_array, read_list}
+use Rattle.otlp_read.specs.Nested.{known_of_any, known_of_key_value}
 use Rattle.otlp_read.specs.Value.{span_step, span_known, keep_span}
 use Rattle.otlp_read.specs.Walk.{◌>>=◌, Step, before, walk, read_with}
 use Rattle.otlp_read.proofs.Leaves.{utf8_yes}
 use Rattle.otlp_read.proofs.Opened.{opened, attribute_read}
-use Rattle.otlp_read.proofs.Taken.{Taken, Short, whole, some_string_taken}
+use Rattle.otlp_read.proofs.Taken.{Taken, Short, some_string_taken}
 use Rattle.otlp_read.proofs.Walks.{before_rest, turn_end}
-use Rattle.otlp_canonical.specs.Anew.{Spelled, pair_of, IsPair, IsFirst, IsOnly}
+use Rattle.otlp_canonical.specs.Anew.{Spelled, gather, pair_of, IsPair, IsFirst}
 use Rattle.otlp_canonical.specs.Inner.{DefaultLaws, ReadAlike, FieldAlike, PutFor}
 use Rattle.otlp_canonical.proofs.Dropped.{Going, going_put, going_same, front_walked}
+use Rattle.otlp_canonical.proofs.Gathered.{gathered_on, gather_unknown}
 use Rattle.otlp_canonical.proofs.Inside.{holding, put_field, field_alike}
+use Rattle.otlp_canonical.proofs.Others.{none_of}
 
 -- ---- walks
 
-ends : {A : Type 0} (step : Step A) (d : ℕ) (r : Result A ReadFault) → (r >>= λ b. walk step d b []) ≡ r
+pub ends : {A : Type 0} (step : Step A) (d : ℕ) (r : Result A ReadFault) → (r >>= λ b. walk step d b []) ≡ r
 ends step d (Ok b) = turn_end step d b [] refl
 ends step d (Err f) = refl
 
 pub one_walked : {A : Type 0} (step : Step A) (d : ℕ) (a : A) (front : List ℕ) (field : Entry) → IsField d front field → walk step d a front ≡ step a field front
 one_walked step d a front field first = ap (walk step d a) (sym (append-nil front)) ∙ front_walked step d a front [] field first ∙ ends step d (step a field front)
 
-then_walked : {A : Type 0} (step : Step A) (d : ℕ) (r : Result A ReadFault) (front rest : List ℕ) (field : Entry) → IsField d front field
+pub then_walked : {A : Type 0} (step : Step A) (d : ℕ) (r : Result A ReadFault) (front rest : List ℕ) (field : Entry) → IsField d front field
     → (r >>= λ a. walk step d a (front ++ rest)) ≡ ((r >>= λ a. step a field front) >>= λ b. walk step d b rest)
 then_walked step d (Ok a) front rest field first = front_walked step d a front rest field first
 then_walked step d (Err f) front rest field first = refl
@@ -48,6 +50,12 @@ spelled_is d left rest field found =
     let b = next_takes d left field rest found in
     let run : before left rest ≡ b.front = ap (λ (t : List ℕ). before t rest) b.parts ∙ before_rest b.front rest in
     subst (λ (t : List ℕ). IsField d t field) (sym run) b.first
+
+pub next_before : (d : ℕ) (left rest : List ℕ) (field : Entry) → next_at d left ≡ Ok (Some (field, rest)) → left ≡ before left rest ++ rest
+next_before d left rest field found =
+    let b = next_takes d left field rest found in
+    let run : before left rest ≡ b.front = ap (λ (t : List ℕ). before t rest) b.parts ∙ before_rest b.front rest in
+    b.parts ∙ ap (λ (t : List ℕ). t ++ rest) (sym run)
 
 -- as short as it can be
 in_two : (old tag value tagged new : List ℕ) → tagged ≡ old ++ tag → new ≡ tagged ++ value → new ≡ old ++ (tag ++ value)
@@ -134,24 +142,6 @@ list_put inner d bs old new f =
     let same : read_list inner no_list f.put ≡ read_list inner no_list bs = sym (list_read inner no_list f.put) ∙ sym f.same ∙ list_read inner no_list bs in
     rw first (ap (λ (r : Result KeyValueListData ReadFault). r >>= λ l. Ok (choose (kvlist l) no_value)) same))
 
--- of no fields
-pub nothing_alike : {A : Type 0} (step : ℕ → Step A) (none : A) (room : ℕ) (text old : List ℕ) → text ≡ [] → ReadAlike step none room text old old
-nothing_alike step none room text old is = record { put = []; copied = sym (append-nil old); same = ap (read_with step room none) is }
-
--- of one
-pub value_alike : (room : ℕ) (text rest old new : List ℕ) (field : Entry) → 0 < room → next_at (101 - room) text ≡ Ok (Some (field, rest)) → rest ≡ [] → PutFor any_step_in IsFirst (room - 1) (101 - room) 0 field old new → ReadAlike any_step_in no_value room text old new
-value_alike room text rest old new field some found none p =
-    let step = any_step_in (room - 1) in
-    let d = 101 - room in
-    let b = next_takes d text field rest found in
-    record {
-      put = p.put;
-      copied = p.copied;
-      same =
-          opened any_step_in room no_value text some ∙ ap (walk step d no_value) (b.parts ∙ ap (λ (t : List ℕ). b.front ++ t) none) ∙ front_walked step d no_value b.front [] field b.first
-          ∙ sym (p.alike no_value b.front [] refl) ∙ ap (walk step d no_value) (append-nil p.put) ∙ sym (opened any_step_in room no_value p.put some);
-    }
-
 -- ---- arrays and lists, in which no field has a default
 
 abbrev pub Always : {A : Type 0} → ℕ → A → Type 0
@@ -209,48 +199,115 @@ pair_put inner d bs old new f =
 
 -- ---- a key with its value: the fields that went by
 
-pub record Pairing (d : ℕ) (text left key value : List ℕ) (has : Bool) : Type 0 where
+-- what is kept is read as it was, whatever stands before it
+abbrev pub Again : ℕ → List ℕ → Type 0
+Again d kept = (room : ℕ) (p : KeyValueData) (rest : List ℕ) → walk (key_value_step room) d p (kept ++ rest) ≡ walk (key_value_step room) d (keep_key_value p kept) rest
+
+pub record Pairing (d : ℕ) (text left key value : List ℕ) (has : Bool) (size : ℕ) : Type 0 where
   pub gone : List ℕ
   pub parts : text ≡ gone ++ left
   pub valid : IsUtf8 key
-  pub so_far : (room : ℕ) (rest : List ℕ) → walk (key_value_step room) d no_key_value (gone ++ rest) ≡ (pair_of room key value has >>= λ p. walk (key_value_step room) d p rest)
+  pub kept : List ℕ
+  pub none : size ≡ 0 → kept ≡ []
+  pub gathered : (rest : List ℕ) → walk (gather known_of_key_value no_key_value) d [] (gone ++ rest) ≡ walk (gather known_of_key_value no_key_value) d kept rest
+  pub again : Again d kept
+  pub so_far : (room : ℕ) (rest : List ℕ) → walk (key_value_step room) d no_key_value (gone ++ rest) ≡ (pair_of room key value has kept >>= λ p. walk (key_value_step room) d p rest)
 
-pub none_paired : (d : ℕ) (text value : List ℕ) → Pairing d text text [] value false
-none_paired d text value = record { gone = []; parts = refl; valid = IsUtf8-nil; so_far = λ room rest. refl }
+keep_none : (p : KeyValueData) → keep_key_value p [] ≡ p
+keep_none (bare_key key unknown) = ap (λ (u : List ℕ). bare_key key u) (append-nil unknown)
+keep_none (key_value key v unknown) = ap (λ (u : List ℕ). key_value key v u) (append-nil unknown)
 
-one_paired : (d : ℕ) (text left rest key value later other : List ℕ) (has now : Bool) (field : Entry) → next_at d left ≡ Ok (Some (field, rest)) → IsUtf8 later
-    → ((room : ℕ) (spelled : List ℕ) → (pair_of room key value has >>= λ p. key_value_step room p field spelled) ≡ pair_of room later other now)
-    → Pairing d text left key value has → Pairing d text rest later other now
-one_paired d text left rest key value later other has now field found valid same p =
-    let b = next_takes d left field rest found in
+keep_both : (p : KeyValueData) (kept more : List ℕ) → keep_key_value (keep_key_value p kept) more ≡ keep_key_value p (kept ++ more)
+keep_both (bare_key key unknown) kept more = ap (λ (u : List ℕ). bare_key key u) (append_assoc unknown kept more)
+keep_both (key_value key v unknown) kept more = ap (λ (u : List ℕ). key_value key v u) (append_assoc unknown kept more)
+
+pub none_paired : (d : ℕ) (text value : List ℕ) → Pairing d text text [] value false 0
+none_paired d text value = record {
+  gone = [];
+  parts = refl;
+  valid = IsUtf8-nil;
+  kept = [];
+  none = λ e. refl;
+  gathered = λ rest. refl;
+  again = λ room p rest. ap (λ (q : KeyValueData). walk (key_value_step room) d q rest) (sym (keep_none p));
+  so_far = λ room rest. refl;
+}
+
+one_paired : (d : ℕ) (text left rest key value later other more : List ℕ) (has now : Bool) (size larger : ℕ) (field : Entry) → next_at d left ≡ Ok (Some (field, rest)) → IsUtf8 later → (larger ≡ 0 → more ≡ []) → Again d more
+    → (p : Pairing d text left key value has size) → gather known_of_key_value no_key_value p.kept field (before left rest) ≡ Ok more
+    → ((room : ℕ) → (pair_of room key value has p.kept >>= λ q. key_value_step room q field (before left rest)) ≡ pair_of room later other now more)
+    → Pairing d text rest later other now larger
+one_paired d text left rest key value later other more has now size larger field found valid none again p gathers same =
+    let front = before left rest in
+    let first : IsField d front field = spelled_is d left rest field found in
+    let is : left ≡ front ++ rest = next_before d left rest field found in
     record {
-      gone = p.gone ++ b.front;
-      parts = p.parts ∙ ap (λ (t : List ℕ). p.gone ++ t) b.parts ∙ sym (append_assoc p.gone b.front rest);
+      gone = p.gone ++ front;
+      parts = p.parts ∙ ap (λ (t : List ℕ). p.gone ++ t) is ∙ sym (append_assoc p.gone front rest);
       valid = valid;
+      kept = more;
+      none = none;
+      gathered = gathered_on known_of_key_value no_key_value d p.gone front p.kept more field first gathers p.gathered;
+      again = again;
       so_far = λ room behind.
-          ap (walk (key_value_step room) d no_key_value) (append_assoc p.gone b.front behind) ∙ p.so_far room (b.front ++ behind)
-          ∙ then_walked (key_value_step room) d (pair_of room key value has) b.front behind field b.first
-          ∙ ap (λ (r : Result KeyValueData ReadFault). r >>= λ q. walk (key_value_step room) d q behind) (same room b.front);
+          ap (walk (key_value_step room) d no_key_value) (append_assoc p.gone front behind) ∙ p.so_far room (front ++ behind)
+          ∙ then_walked (key_value_step room) d (pair_of room key value has p.kept) front behind field first
+          ∙ ap (λ (r : Result KeyValueData ReadFault). r >>= λ q. walk (key_value_step room) d q behind) (same room);
     }
 
-keyed_in : (room : ℕ) (key later spelled : List ℕ) (r : Result AnyValueData ReadFault) → IsUtf8 later → ((r >>= λ v. Ok (key_value key v [])) >>= λ p. key_value_step room p (holding 1 later) spelled) ≡ (r >>= λ v. Ok (key_value later v []))
-keyed_in room key later spelled (Ok v) valid = ap (λ (r : Result (List ℕ) ReadFault). r >>= λ text. Ok (with_key text (key_value key v []))) (utf8_yes later valid)
-keyed_in room key later spelled (Err f) valid = refl
+keyed_in : (room : ℕ) (key later kept spelled : List ℕ) (r : Result AnyValueData ReadFault) → IsUtf8 later → ((r >>= λ v. Ok (key_value key v kept)) >>= λ p. key_value_step room p (holding 1 later) spelled) ≡ (r >>= λ v. Ok (key_value later v kept))
+keyed_in room key later kept spelled (Ok v) valid = ap (λ (r : Result (List ℕ) ReadFault). r >>= λ text. Ok (with_key text (key_value key v kept))) (utf8_yes later valid)
+keyed_in room key later kept spelled (Err f) valid = refl
 
-keyed : (key value later : List ℕ) (has : Bool) → IsUtf8 later → (room : ℕ) (spelled : List ℕ) → (pair_of room key value has >>= λ p. key_value_step room p (holding 1 later) spelled) ≡ pair_of room later value has
-keyed key value later true valid room spelled = keyed_in room key later spelled (read_any room no_value value) valid
-keyed key value later false valid room spelled = ap (λ (r : Result (List ℕ) ReadFault). r >>= λ text. Ok (with_key text (bare_key key []))) (utf8_yes later valid)
+keyed : (key value later kept : List ℕ) (has : Bool) → IsUtf8 later → (room : ℕ) (spelled : List ℕ) → (pair_of room key value has kept >>= λ p. key_value_step room p (holding 1 later) spelled) ≡ pair_of room later value has kept
+keyed key value later kept true valid room spelled = keyed_in room key later kept spelled (read_any room no_value value) valid
+keyed key value later kept false valid room spelled = ap (λ (r : Result (List ℕ) ReadFault). r >>= λ text. Ok (with_key text (bare_key key kept))) (utf8_yes later valid)
 
-pub key_paired : (d : ℕ) (text left rest key value later : List ℕ) (has : Bool) → next_at d left ≡ Ok (Some (holding 1 later, rest)) → IsUtf8 later → Pairing d text left key value has → Pairing d text rest later value has
-key_paired d text left rest key value later has found valid p = one_paired d text left rest key value later value has has (holding 1 later) found valid (keyed key value later has valid) p
+pub key_paired : (d : ℕ) (text left rest key value later : List ℕ) (has : Bool) (size : ℕ) → next_at d left ≡ Ok (Some (holding 1 later, rest)) → IsUtf8 later → Pairing d text left key value has size → Pairing d text rest later value has size
+key_paired d text left rest key value later has size found valid p =
+    one_paired d text left rest key value later value p.kept has has size size (holding 1 later) found valid p.none p.again p refl (λ room. keyed key value later p.kept has valid room (before left rest))
 
-pub value_paired : (d : ℕ) (text left rest key value later : List ℕ) → next_at d left ≡ Ok (Some (holding 2 later, rest)) → Pairing d text left key value false → Pairing d text rest key later true
-value_paired d text left rest key value later found p = one_paired d text left rest key value key later false true (holding 2 later) found p.valid (λ room spelled. refl) p
+pub value_paired : (d : ℕ) (text left rest key value later : List ℕ) (size : ℕ) → next_at d left ≡ Ok (Some (holding 2 later, rest)) → Pairing d text left key value false size → Pairing d text rest key later true size
+value_paired d text left rest key value later size found p = one_paired d text left rest key value key later p.kept false true size size (holding 2 later) found p.valid p.none p.again p refl (λ room. refl)
 
-pub all_paired : (d : ℕ) (text left key value : List ℕ) (has : Bool) → left ≡ [] → Pairing d text left key value has → IsPair d text key value has
-all_paired d text left key value has none p =
+-- a field that an attribute doesn't know
+abbrev pub Unkeyed : Entry → Type 0
+Unkeyed field = (room : ℕ) (p : KeyValueData) → is_some (known_of_key_value room p field.number field.value) ≡ false
+
+keeps : (room : ℕ) (p : KeyValueData) (field : Entry) (spelled : List ℕ) → Unkeyed field → key_value_step room p field spelled ≡ Ok (keep_key_value p spelled)
+keeps room p field spelled unknown = ap (λ (o : Option (Result KeyValueData ReadFault)). unwrap_or o (Ok (keep_key_value p spelled))) (none_of (known_of_key_value room p field.number field.value) (unknown room p))
+
+kept_in : (room : ℕ) (key kept spelled : List ℕ) (field : Entry) (r : Result AnyValueData ReadFault) → Unkeyed field → ((r >>= λ v. Ok (key_value key v kept)) >>= λ p. key_value_step room p field spelled) ≡ (r >>= λ v. Ok (key_value key v (kept ++ spelled)))
+kept_in room key kept spelled field (Ok v) unknown = keeps room (key_value key v kept) field spelled unknown
+kept_in room key kept spelled field (Err f) unknown = refl
+
+kept_on : (key value kept spelled : List ℕ) (has : Bool) (field : Entry) → Unkeyed field → (room : ℕ) → (pair_of room key value has kept >>= λ p. key_value_step room p field spelled) ≡ pair_of room key value has (kept ++ spelled)
+kept_on key value kept spelled true field unknown room = kept_in room key kept spelled field (read_any room no_value value) unknown
+kept_on key value kept spelled false field unknown room = keeps room (bare_key key kept) field spelled unknown
+
+again_on : (d : ℕ) (kept front : List ℕ) (field : Entry) → IsField d front field → Unkeyed field → Again d kept → Again d (kept ++ front)
+again_on d kept front field first unknown again room p rest =
+    let step = key_value_step room in
+    ap (walk step d p) (append_assoc kept front rest) ∙ again room p (front ++ rest) ∙ front_walked step d (keep_key_value p kept) front rest field first
+    ∙ ap (λ (r : Result KeyValueData ReadFault). r >>= λ q. walk step d q rest) (keeps room (keep_key_value p kept) field front unknown) ∙ ap (λ (q : KeyValueData). walk step d q rest) (keep_both p kept front)
+
+pub unknown_paired : (d : ℕ) (text left rest key value : List ℕ) (has : Bool) (size larger : ℕ) (field : Entry) → next_at d left ≡ Ok (Some (field, rest)) → Unkeyed field → 0 < larger → Pairing d text left key value has size
+    → Pairing d text rest key value has larger
+unknown_paired d text left rest key value has size larger field found unknown some p =
+    one_paired d text left rest key value key value (p.kept ++ before left rest) has has size larger field found p.valid (λ e. absurd (omega (arith, e, some))) (again_on d p.kept (before left rest) field (spelled_is d left rest field found) unknown p.again) p
+    (gather_unknown known_of_key_value no_key_value p.kept (before left rest) field (unknown 0 no_key_value)) (kept_on key value p.kept (before left rest) has field unknown)
+
+pub all_paired : (d : ℕ) (text left key value : List ℕ) (has : Bool) (size : ℕ) → left ≡ [] → Pairing d text left key value has size → IsPair d text key value has size
+all_paired d text left key value has size none p =
     let gone : text ≡ p.gone ++ [] = p.parts ∙ ap (λ (t : List ℕ). p.gone ++ t) none in
-    record { valid = p.valid; read = λ room. ap (walk (key_value_step room) d no_key_value) gone ∙ p.so_far room [] ∙ ends (key_value_step room) d (pair_of room key value has) }
+    record {
+      valid = p.valid;
+      kept = p.kept;
+      none = p.none;
+      gathered = ap (walk (gather known_of_key_value no_key_value) d []) gone ∙ p.gathered [] ∙ turn_end (gather known_of_key_value no_key_value) d p.kept [] refl;
+      again = p.again;
+      read = λ room. ap (walk (key_value_step room) d no_key_value) gone ∙ p.so_far room [] ∙ ends (key_value_step room) d (pair_of room key value has p.kept);
+    }
 
 -- ---- a key with its value is put
 
@@ -260,39 +317,51 @@ key_taken room d key valid = some_string_taken (key_value_step room) d 1 refl (�
 short_behind : (old put all : List ℕ) → all ≡ old ++ put → length all < 2 ^ 64 → Short put
 short_behind old put all is fits = omega (arith, ap (λ (t : List ℕ). length t) is, length-append old put, fits)
 
-pub key_alike : (room : ℕ) (text key value old new : List ℕ) → 0 < room → IsPair (101 - room) text key value false → length new < 2 ^ 64 → new ≡ old ++ some_bytes 1 key → ReadAlike key_value_step no_key_value room text old new
-key_alike room text key value old new some p fits is = record {
-  put = some_bytes 1 key;
-  copied = is;
-  same =
-      opened key_value_step room no_key_value text some ∙ p.read (room - 1) ∙ sym (whole (key_taken (room - 1) (101 - room) key p.valid) (short_behind old (some_bytes 1 key) new is fits))
-      ∙ sym (opened key_value_step room no_key_value (some_bytes 1 key) some);
-}
+kept_walked : (inner d : ℕ) (kept : List ℕ) (q : KeyValueData) → Again d kept → walk (key_value_step inner) d q kept ≡ Ok (keep_key_value q kept)
+kept_walked inner d kept q again = ap (walk (key_value_step inner) d q) (sym (append-nil kept)) ∙ again inner q [] ∙ turn_end (key_value_step inner) d (keep_key_value q kept) [] refl
 
-pub pair_alike : (room : ℕ) (text key value old keyed new : List ℕ) → 0 < room → IsPair (101 - room) text key value true → length keyed < 2 ^ 64 → keyed ≡ old ++ some_bytes 1 key → FieldAlike any_step_in no_value (room - 1) 2 value keyed new
+kept_behind : (inner d : ℕ) (key kept : List ℕ) (r : Result AnyValueData ReadFault) → Again d kept → ((r >>= λ v. Ok (key_value key v [])) >>= λ q. walk (key_value_step inner) d q kept) ≡ (r >>= λ v. Ok (key_value key v kept))
+kept_behind inner d key kept (Ok v) again = kept_walked inner d kept (key_value key v []) again
+kept_behind inner d key kept (Err f) again = refl
+
+pub key_alike : (room size : ℕ) (text key value old keyed new : List ℕ) → 0 < room → (p : IsPair (101 - room) text key value false size) → length keyed < 2 ^ 64 → keyed ≡ old ++ some_bytes 1 key → new ≡ keyed ++ p.kept
     → ReadAlike key_value_step no_key_value room text old new
-pair_alike room text key value old keyed new some p fits is f =
+key_alike room size text key value old keyed new some p fits is behind =
+    let inner = room - 1 in
+    let d = 101 - room in
+    let step = key_value_step inner in
+    let read : walk step d no_key_value (some_bytes 1 key ++ p.kept) ≡ Ok (bare_key key p.kept) =
+    (key_taken inner d key p.valid).taken (short_behind old (some_bytes 1 key) keyed is fits) p.kept ∙ kept_walked inner d p.kept (bare_key key []) p.again in
+    record {
+      put = some_bytes 1 key ++ p.kept;
+      copied = behind ∙ ap (λ (t : List ℕ). t ++ p.kept) is ∙ append_assoc old (some_bytes 1 key) p.kept;
+      same = opened key_value_step room no_key_value text some ∙ p.read inner ∙ sym read ∙ sym (opened key_value_step room no_key_value (some_bytes 1 key ++ p.kept) some);
+    }
+
+pub pair_alike : (room size : ℕ) (text key value old keyed valued new : List ℕ) → 0 < room → (p : IsPair (101 - room) text key value true size) → length keyed < 2 ^ 64 → keyed ≡ old ++ some_bytes 1 key
+    → FieldAlike any_step_in no_value (room - 1) 2 value keyed valued → new ≡ valued ++ p.kept → ReadAlike key_value_step no_key_value room text old new
+pair_alike room size text key value old keyed valued new some p fits is f behind =
     let inner = room - 1 in
     let d = 101 - room in
     let step = key_value_step inner in
     let field = bytes_field 2 f.put in
     let first : IsField d field (holding 2 f.put) = field_written d (holding 2 f.put) (omega arith) (omega arith) f.short in
     let same : read_any inner no_value f.put ≡ read_any inner no_value value = sym (any_read inner no_value f.put) ∙ sym f.same ∙ any_read inner no_value value in
-    let read : walk step d no_key_value (some_bytes 1 key ++ field) ≡ pair_of inner key value true =
-    (key_taken inner d key p.valid).taken (short_behind old (some_bytes 1 key) keyed is fits) field ∙ one_walked step d (bare_key key []) field (holding 2 f.put) first
-    ∙ ap (λ (r : Result AnyValueData ReadFault). r >>= λ v. Ok (key_value key v [])) same in
+    let read : walk step d no_key_value (some_bytes 1 key ++ (field ++ p.kept)) ≡ pair_of inner key value true p.kept =
+    (key_taken inner d key p.valid).taken (short_behind old (some_bytes 1 key) keyed is fits) (field ++ p.kept) ∙ front_walked step d (bare_key key []) field p.kept (holding 2 f.put) first
+    ∙ kept_behind inner d key p.kept (read_any inner no_value f.put) p.again ∙ ap (λ (r : Result AnyValueData ReadFault). r >>= λ v. Ok (key_value key v p.kept)) same in
     record {
-      put = some_bytes 1 key ++ field;
-      copied = f.copied ∙ ap (λ (t : List ℕ). t ++ field) is ∙ append_assoc old (some_bytes 1 key) field;
-      same = opened key_value_step room no_key_value text some ∙ p.read inner ∙ sym read ∙ sym (opened key_value_step room no_key_value (some_bytes 1 key ++ field) some);
+      put = some_bytes 1 key ++ (field ++ p.kept);
+      copied =
+          behind ∙ ap (λ (t : List ℕ). t ++ p.kept) (f.copied ∙ ap (λ (t : List ℕ). t ++ field) is) ∙ append_assoc (old ++ some_bytes 1 key) field p.kept
+          ∙ append_assoc old (some_bytes 1 key) (field ++ p.kept);
+      same = opened key_value_step room no_key_value text some ∙ p.read inner ∙ sym read ∙ sym (opened key_value_step room no_key_value (some_bytes 1 key ++ (field ++ p.kept)) some);
     }
 
--- the same behind a tag and a length, where the value's only field stands behind them too
-pub plain_alike : (room size inner : ℕ) (field : Entry) (text key value old tagged sized keyed behind inside new : List ℕ) → 0 < room → IsPair (101 - room) text key value true → IsOnly (room - 1) value field
-    → tagged ≡ old ++ tag_text 9 types.Bytes → sized ≡ tagged ++ varint_text size → keyed ≡ sized ++ some_bytes 1 key → behind ≡ keyed ++ tag_text 2 types.Bytes → inside ≡ behind ++ varint_text inner → Spelled field inside new
-    → length new - length inside ≡ inner → length new - length sized ≡ size → length keyed < 2 ^ 64 → length new < 2 ^ 64 → FieldAlike key_value_step no_key_value room 9 text old new
-plain_alike room size inner field text key value old tagged sized keyed behind inside new some pair only tag length_ key_is value_tag value_length spelled value_at at keyed_fits fits =
-    let put : PutFor any_step_in IsFirst (room - 1 - 1) (101 - (room - 1)) 0 field inside new = spelled_put any_step_in IsFirst (room - 1 - 1) (101 - (room - 1)) 0 field inside new (any_spelled (room - 1 - 1) field only.known) spelled in
-    let read : ReadAlike any_step_in no_value (room - 1) value inside new = value_alike (room - 1) value [] inside new field only.some only.only refl put in
-    let held : FieldAlike any_step_in no_value (room - 1) 2 value keyed new = field_alike any_step_in no_value (room - 1) 2 inner value keyed behind inside new value_tag value_length value_at (omega (arith, value_at, fits)) read in
-    field_alike key_value_step no_key_value room 9 size text old tagged sized new tag length_ at (omega (arith, at, fits)) (pair_alike room text key value sized keyed new some pair keyed_fits key_is held)
+-- the same behind a tag and a length, where the value stands behind them too
+pub plain_alike : (room size inner unknown : ℕ) (text key value old tagged sized keyed behind inside valued new : List ℕ) → 0 < room → (p : IsPair (101 - room) text key value true unknown) → ReadAlike any_step_in no_value (room - 1) value inside valued
+    → tagged ≡ old ++ tag_text 9 types.Bytes → sized ≡ tagged ++ varint_text size → keyed ≡ sized ++ some_bytes 1 key → behind ≡ keyed ++ tag_text 2 types.Bytes → inside ≡ behind ++ varint_text inner → length valued - length inside ≡ inner
+    → new ≡ valued ++ p.kept → length new - length sized ≡ size → length keyed < 2 ^ 64 → length valued < 2 ^ 64 → length new < 2 ^ 64 → FieldAlike key_value_step no_key_value room 9 text old new
+plain_alike room size inner unknown text key value old tagged sized keyed behind inside valued new some pair read tag length_ key_is value_tag value_length value_at kept at keyed_fits valued_fits fits =
+    let held : FieldAlike any_step_in no_value (room - 1) 2 value keyed valued = field_alike any_step_in no_value (room - 1) 2 inner value keyed behind inside valued value_tag value_length value_at (omega (arith, value_at, valued_fits)) read in
+    field_alike key_value_step no_key_value room 9 size text old tagged sized new tag length_ at (omega (arith, at, fits)) (pair_alike room unknown text key value sized keyed valued new some pair keyed_fits key_is held kept)

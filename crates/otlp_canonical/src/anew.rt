@@ -1,16 +1,18 @@
 //! Attributes that are put anew: with their fields in order, and with all lengths as short as they can be. A key may
-//! stand behind its value, be written where it is empty, or stand twice.
+//! stand behind its value, be written where it is empty, or stand twice. A value may have members of which the last one
+//! wins. Fields that aren't known may stand anywhere.
 
-ghost use Rattle.std.specs.Prelude.{◌≡◌, ℕ, List, true, IfOk, IfSome};
+ghost use Rattle.std.specs.Prelude.{◌≡◌, ◌-◌, ◌<◌, ℕ, List, [], ◌++◌, true, Some, Ok, option_map, IfOk, IfSome};
 ghost use Rattle.pb_wire.specs.Grammar.{entry};
 ghost use Rattle.otlp_read.specs.AnyValue.{no_value, no_array, no_list, no_key_value, any_step_in, array_step_in, list_step_in, key_value_step};
-ghost use Rattle.otlp_canonical.specs.Anew.{IsFirst, IsOnly, IsPair, Spelled};
+ghost use Rattle.otlp_read.specs.Walk.{walk};
+ghost use Rattle.otlp_canonical.specs.Anew.{gather, GivesWay, HasParts, IsFirst, IsMember, IsPair, IsValue, Spelled};
 ghost use Rattle.otlp_canonical.specs.Inner.{ReadAlike, FieldAlike, PutFor};
 
 use crate::attribute::{field_size, varint_size};
 use crate::field::is_utf8;
 use crate::unknown::Keeping;
-use otlp_trace::{AnyValue, put_bytes_field, put_some_bytes, wrap_in_field};
+use otlp_trace::{AnyValue, KeyValue, put_bytes_field, put_some_bytes, wrap_in_field};
 use pb_wire::{Field, Value, WireType, next_field, put_tag, put_varint};
 use std::alloc::AllocError;
 
@@ -61,7 +63,38 @@ fn short_size(field: Field<'_>) -> usize {
     }
 }
 
-/// An attribute of which a key and a value are all.
+/// Appends the fields of the text that the message doesn't know, as they are spelled. They take so many bytes, or more.
+/// Tells whether the text is fields all through.
+#[inline(always)]
+fn put_unknown<M: Keeping>(
+    copy: &mut Vec<u8>,
+    text: &[u8],
+    size: usize,
+    depth: u32,
+) -> Result<bool, AllocError>
+    ensures { (a : M.Data) (kept : List ℕ) → walk (gather M.known a) depth [] text.now ≡ Ok kept
+        → (size ≡ 0 → kept ≡ []) → IfOk result (λ whole. whole ≡ true
+        → copy.new.items ≡ copy.old.items ++ kept) }
+{
+    if size == 0 {
+        return Ok(true);
+    }
+    let mut left = text;
+    'fields: while !left.is_empty() {
+        let Ok(Some((field, rest))) = next_field(left, depth) else {
+            return Ok(false);
+        };
+        if M::knows(field) {
+            left = rest;
+            continue;
+        }
+        copy.extend_from_slice(&left[..left.len() - rest.len()])?;
+        left = rest;
+    }
+    Ok(true)
+}
+
+/// An attribute with one value at most.
 #[derive(Clone, Copy)]
 struct Pair<'a> {
     /// The last key that stands in it, empty where there is none.
@@ -72,35 +105,37 @@ struct Pair<'a> {
 
     /// A value stands in it.
     has_value: bool,
+
+    /// How many bytes its fields take that aren't known.
+    unknown: usize,
 }
 
-/// The key and the value, where the text has no other fields, and one value at most.
+/// The key and the value, where the text has one value at most.
+#[inline(always)]
 fn split_pair(text: &[u8], depth: u32) -> Option<Pair<'_>>
     ensures { IfSome result (λ pair. IsPair depth text.now pair.key.now pair.value.now
-        pair.has_value) }
+        pair.has_value pair.unknown) }
 {
     let mut key = &text[..0];
     let mut value = &text[..0];
     let mut has_value = false;
+    let mut unknown = 0usize;
     let mut left = text;
     'fields: while !left.is_empty() {
         let Ok(Some((field, rest))) = next_field(left, depth) else {
             return None;
         };
+        if !KeyValue::knows(field) {
+            unknown = unknown.saturating_add(left.len() - rest.len());
+            left = rest;
+            continue;
+        }
         let Value::Bytes(bytes) = field.value else {
             return None;
         };
         match field.number {
-            1 => {
-                if !is_utf8(bytes) {
-                    return None;
-                }
-                key = bytes;
-            }
-            2 => {
-                if has_value {
-                    return None;
-                }
+            1 if is_utf8(bytes) => key = bytes,
+            2 if !has_value => {
                 value = bytes;
                 has_value = true;
             }
@@ -112,43 +147,141 @@ fn split_pair(text: &[u8], depth: u32) -> Option<Pair<'_>>
         key,
         value,
         has_value,
+        unknown,
     })
 }
 
-/// The only field of the pair's value, if it is a string, a bool, a number or bytes.
+/// A value of which one member counts.
+#[derive(Clone, Copy)]
+struct Chosen<'a> {
+    /// The member, if the value has one.
+    member: Option<Field<'a>>,
+
+    /// How many bytes its fields take that aren't known.
+    unknown: usize,
+}
+
+/// Whether the member, if there is one, can be read by itself, and leaves nothing to one that follows. An array and a
+/// list would: they are merged.
 #[inline(always)]
-fn only_field(pair: Pair<'_>, room: u32) -> Option<Field<'_>>
-    ensures has { IfSome result (λ field. pair.entry.has_value ≡ true) }
-    ensures only { IfSome result (λ field. IsOnly room pair.entry.value.now (entry field)) }
+fn gives_way(member: Option<Field<'_>>) -> bool
+    ensures { result ≡ true → GivesWay (option_map entry member.entry) }
 {
-    if room == 0 || !pair.has_value {
+    let Some(field) = member else {
+        return true;
+    };
+    match field.value {
+        Value::Varint(_number) if field.number == 2 => true,
+        Value::Varint(_number) if field.number == 3 => true,
+        Value::Eight(_double) if field.number == 4 => true,
+        Value::Bytes(text) if field.number == 1 => is_utf8(text),
+        Value::Bytes(_bytes) if field.number == 7 => true,
+        _ => false,
+    }
+}
+
+/// The member of a value that counts, if all before it give way.
+#[inline(always)]
+fn split_value(text: &[u8], depth: u32) -> Option<Chosen<'_>>
+    ensures { IfSome result (λ chosen. IsValue depth text.now (option_map entry chosen.member)
+        chosen.unknown) }
+{
+    let mut member: Option<Field<'_>> = None;
+    let mut unknown = 0usize;
+    let mut left = text;
+    'fields: while !left.is_empty() {
+        let Ok(Some((field, rest))) = next_field(left, depth) else {
+            return None;
+        };
+        if !AnyValue::knows(field) {
+            unknown = unknown.saturating_add(left.len() - rest.len());
+            left = rest;
+            continue;
+        }
+        if !gives_way(member) {
+            return None;
+        }
+        member = Some(field);
+        left = rest;
+    }
+    Some(Chosen { member, unknown })
+}
+
+/// An attribute of whose fields at most one is a value, and the member of that which counts.
+#[derive(Clone, Copy)]
+pub struct Parts<'a> {
+    /// Its key and its value.
+    pair: Pair<'a>,
+
+    /// The value.
+    chosen: Chosen<'a>,
+}
+
+/// The parts of the attribute, if it has one value at most, of whose members one counts.
+#[inline(always)]
+pub fn parts_of(text: &[u8], room: u32) -> Option<Parts<'_>>
+    ensures { IfSome result (λ parts. HasParts room text.now parts) }
+{
+    if room == 0 {
         return None;
     }
     let depth = 101u32.saturating_sub(room);
-    let Ok(Some((field, rest))) = next_field(pair.value, depth) else {
+    let pair = split_pair(text, depth)?;
+    let inside = 102u32.saturating_sub(room);
+    let chosen = split_value(pair.value, inside)?;
+    Some(Parts { pair, chosen })
+}
+
+/// The member that counts, if it is a string, a bool, a number or bytes.
+#[inline(always)]
+fn plain_member(parts: Parts<'_>, room: u32) -> Option<Field<'_>>
+    ensures has { IfSome result (λ field. parts.entry.pair.has_value ≡ true) }
+    ensures some { IfSome result (λ field. 0 < room) }
+    ensures is { IfSome result (λ field. option_map entry parts.entry.chosen.member
+        ≡ Some (entry field)) }
+{
+    if room == 0 || !parts.pair.has_value {
         return None;
-    };
-    if !rest.is_empty() || matches!(field.number, 5 | 6) || !AnyValue::knows(field) {
+    }
+    let field = parts.chosen.member?;
+    if matches!(field.number, 5 | 6) {
         return None;
     }
     Some(field)
 }
 
-/// Whether `put_respelled` puts the attribute's text, but for what stands in an array or a list: a key and a value are
-/// all of it, and the value is one field that is known, in no more bits than it has.
-pub fn is_respellable(text: &[u8], room: u32) -> bool {
-    let depth = 101u32.saturating_sub(room);
-    let Some(pair) = split_pair(text, depth) else {
-        return false;
+/// Whether the attribute is canonical once `put_parts` has put it, but for what stands in an array or a list: the
+/// member that counts has no more bits than it takes.
+pub fn are_short(parts: Parts<'_>) -> bool {
+    let Some(field) = parts.chosen.member else {
+        return true;
     };
-    let Ok(Some((field, rest))) = next_field(pair.value, depth) else {
-        return pair.value.is_empty();
-    };
-    let is_short = match field.value {
+    match field.value {
         Value::Varint(number) => field.number != 2 || number < 2,
         _ => true,
-    };
-    is_short && rest.is_empty() && AnyValue::knows(field)
+    }
+}
+
+/// Appends a value's member that is no message anew, and what isn't known in the value.
+#[inline(always)]
+fn put_plain(
+    copy: &mut Vec<u8>,
+    value: &[u8],
+    field: Field<'_>,
+    unknown: usize,
+    room: u32,
+) -> Result<bool, AllocError>
+    requires some { 0 < room }
+    ensures { IsValue (101 - room) value.now (Some (entry field.entry)) unknown
+        → IfOk result (λ whole. whole ≡ true
+        → ReadAlike any_step_in no_value room value.now copy.old.items copy.new.items) }
+{
+    let depth = 101u32.saturating_sub(room);
+    if !put_short(copy, field)? {
+        return Ok(false);
+    }
+    let whole = put_unknown::<AnyValue>(copy, value, unknown, depth)?;
+    Ok(whole)
 }
 
 /// Appends a field of a span with the attribute's text anew, by way of `put_pair`.
@@ -164,30 +297,49 @@ fn put_nested(copy: &mut Vec<u8>, text: &[u8], room: u32) -> Result<bool, AllocE
     Ok(true)
 }
 
-/// Appends a field of a span with the attribute's text anew. Tells whether it did, as `put_pair` does. How long the
-/// text of a value without others in it gets is known before it is put.
+/// Appends a field of a span with the attribute's text anew. Tells whether it did, as `put_pair` does.
 pub fn put_respelled(copy: &mut Vec<u8>, text: &[u8], room: u32) -> Result<bool, AllocError>
     ensures { IfOk result (λ whole. whole ≡ true
+        → FieldAlike key_value_step no_key_value room 9 text.now copy.old.items copy.new.items) }
+{
+    let Some(parts) = parts_of(text, room) else {
+        return Ok(false);
+    };
+    let whole = put_parts(copy, text, parts, room)?;
+    Ok(whole)
+}
+
+/// Appends a field of a span with the attribute's text anew, which has these parts. How long the text of a value
+/// without others in it gets is known before it is put.
+#[inline(always)]
+pub fn put_parts(
+    copy: &mut Vec<u8>,
+    text: &[u8],
+    parts: Parts<'_>,
+    room: u32,
+) -> Result<bool, AllocError>
+    ensures { HasParts room text.now parts.entry → IfOk result (λ whole. whole ≡ true
         → FieldAlike key_value_step no_key_value room 9 text.now copy.old.items copy.new.items) }
 {
     if room == 0 {
         return Ok(false);
     }
-    let depth = 101u32.saturating_sub(room);
-    let Some(pair) = split_pair(text, depth) else {
-        return Ok(false);
-    };
-    let Some(field) = only_field(pair, room - 1) else {
+    let pair = parts.pair;
+    let Some(field) = plain_member(parts, room - 1) else {
         let whole = put_nested(copy, text, room)?;
         return Ok(whole);
     };
-    let value_size = short_size(field);
+    let unknown = parts.chosen.unknown;
+    let depth = 101u32.saturating_sub(room);
+    let value_size = short_size(field).saturating_add(unknown);
     let key_size = if pair.key.is_empty() {
         0
     } else {
         field_size(pair.key.len())
     };
-    let size = key_size.saturating_add(field_size(value_size));
+    let size = key_size
+        .saturating_add(field_size(value_size))
+        .saturating_add(pair.unknown);
     put_tag(copy, 9, WireType::Bytes)?;
     put_varint(copy, size as u64)?;
     let start = copy.len();
@@ -195,14 +347,20 @@ pub fn put_respelled(copy: &mut Vec<u8>, text: &[u8], room: u32) -> Result<bool,
     put_tag(copy, 2, WireType::Bytes)?;
     put_varint(copy, value_size as u64)?;
     let inside = copy.len();
-    if !put_short(copy, field)? || copy.len().saturating_sub(inside) != value_size {
+    if !put_plain(copy, pair.value, field, unknown, room - 1)? {
+        return Ok(false);
+    }
+    if copy.len().saturating_sub(inside) != value_size {
+        return Ok(false);
+    }
+    if !put_unknown::<KeyValue>(copy, text, pair.unknown, depth)? {
         return Ok(false);
     }
     Ok(copy.len().saturating_sub(start) == size)
 }
 
-/// Appends the attribute's text anew. Tells whether it did, as it does where nothing stands in it that isn't known, and
-/// no message twice.
+/// Appends the attribute's text anew. Tells whether it did, as it does where no message stands twice in it, and nothing
+/// that isn't known in an array or a list.
 #[cycle(put)]
 pub fn put_pair(copy: &mut Vec<u8>, text: &[u8], room: u32) -> Result<bool, AllocError>
     ensures { IfOk result (λ whole. whole ≡ true
@@ -217,17 +375,19 @@ pub fn put_pair(copy: &mut Vec<u8>, text: &[u8], room: u32) -> Result<bool, Allo
     };
     put_some_bytes(copy, 1, pair.key)?;
     if !pair.has_value {
-        return Ok(true);
+        let whole = put_unknown::<KeyValue>(copy, text, pair.unknown, depth)?;
+        return Ok(whole);
     }
     let start = copy.len();
     if !put_value(copy, pair.value, room - 1)? {
         return Ok(false);
     }
     wrap_in_field(copy, start, 2)?;
-    Ok(true)
+    let whole = put_unknown::<KeyValue>(copy, text, pair.unknown, depth)?;
+    Ok(whole)
 }
 
-/// Appends the value's text anew, of which one field at most is all.
+/// Appends the value's text anew, in which one member at most counts.
 #[cycle(put)]
 fn put_value(copy: &mut Vec<u8>, text: &[u8], room: u32) -> Result<bool, AllocError>
     ensures { IfOk result (λ whole. whole ≡ true
@@ -236,21 +396,22 @@ fn put_value(copy: &mut Vec<u8>, text: &[u8], room: u32) -> Result<bool, AllocEr
     if room == 0 {
         return Ok(false);
     }
-    if text.is_empty() {
-        return Ok(true);
-    }
     let depth = 101u32.saturating_sub(room);
-    let Ok(Some((field, rest))) = next_field(text, depth) else {
+    let Some(chosen) = split_value(text, depth) else {
         return Ok(false);
     };
-    if !rest.is_empty() {
+    let Some(field) = chosen.member else {
+        let whole = put_unknown::<AnyValue>(copy, text, chosen.unknown, depth)?;
+        return Ok(whole);
+    };
+    if !put_kind(copy, field, room - 1)? {
         return Ok(false);
     }
-    let whole = put_kind(copy, field, room - 1)?;
+    let whole = put_unknown::<AnyValue>(copy, text, chosen.unknown, depth)?;
     Ok(whole)
 }
 
-/// Appends the only field of a value anew, with room for so many levels inside the value.
+/// Appends the member of a value anew, with room for so many levels inside the value.
 #[cycle(put)]
 fn put_kind(copy: &mut Vec<u8>, field: Field<'_>, room: u32) -> Result<bool, AllocError>
     ensures { (d : ℕ) → IfOk result (λ whole. whole ≡ true

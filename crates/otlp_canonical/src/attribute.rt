@@ -42,7 +42,8 @@ fn begins_with_key(text: &[u8]) -> bool {
 }
 
 /// Whether the attribute's text can't be canonical, by what it begins with: an empty key, a key whose length is longer
-/// than it has to be, or a value behind which a key stands.
+/// than it has to be, a value behind which a key stands, or a field that isn't known, behind which one of these stands
+/// as a rule.
 pub fn begins_otherwise(text: &[u8]) -> bool {
     if begins_with_key(text) {
         return false;
@@ -50,7 +51,8 @@ pub fn begins_otherwise(text: &[u8]) -> bool {
     match text.first() {
         Some(0x0a) => text.len() <= LONGEST_SHORT,
         Some(0x12) => is_behind_value(text),
-        _ => false,
+        Some(_) => true,
+        None => false,
     }
 }
 

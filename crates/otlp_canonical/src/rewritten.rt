@@ -2,17 +2,17 @@
 //! numbers of more bits than a span takes, and events, links, statuses and attributes that are read and written.
 
 ghost use Rattle.std.specs.Prelude.{◌≡◌, ◌-◌, ◌<◌, ◌++◌, ℕ, true, [], IfOk, IfSome};
-ghost use Rattle.pb_wire.specs.Grammar.{entry, IsField};
-ghost use Rattle.otlp_canonical.specs.Anew.{WrittenAnew};
+ghost use Rattle.pb_wire.specs.Grammar.{entry, Bytes, IsField};
+ghost use Rattle.otlp_canonical.specs.Anew.{held, HasParts, WrittenAnew};
 ghost use Rattle.otlp_canonical.specs.Canonical.{CanonicalCopy};
 ghost use Rattle.otlp_canonical.specs.Defaults.{DefaultsAbove};
 ghost use Rattle.otlp_canonical.specs.Inner.{PutFor};
 ghost use Rattle.otlp_canonical.specs.LowBits.{IsReadAs};
 ghost use Rattle.otlp_trace.specs.Defaults.{no_span};
 ghost use Rattle.otlp_read.specs.Value.{span_step};
-ghost use Rattle.otlp_read.specs.Walk.{read_with};
+ghost use Rattle.otlp_read.specs.Walk.{numbered, read_with};
 
-use crate::anew::{is_respellable, put_respelled, put_short};
+use crate::anew::{Parts, are_short, parts_of, put_parts, put_short};
 use crate::attribute::{begins_otherwise, field_size, is_plain};
 use crate::defaults::is_default;
 use crate::message::Canonical;
@@ -48,19 +48,32 @@ fn stays(field: Field<'_>, size: usize, room: u32) -> bool {
     canonical && size == field_size(text.len())
 }
 
-/// Whether it is an attribute that is read and written, if it doesn't stay as it is.
-fn is_read(field: Field<'_>, room: u32) -> bool {
-    match field.value {
-        Value::Bytes(text) => field.number == 9 && !is_respellable(text, room),
-        _ => false,
-    }
+/// Whether the field is an attribute.
+fn is_attribute(field: Field<'_>) -> bool {
+    field.number == 9 && matches!(field.value, Value::Bytes(_))
 }
 
-/// Whether the field at the front is one that is read and written so.
+/// The parts of the field, if it is an attribute that `put_parts` puts.
+fn parts_in(field: Field<'_>, room: u32) -> Option<Parts<'_>>
+    ensures { IfSome result (λ parts. HasParts room (held (entry field.entry).value) parts) }
+{
+    let Value::Bytes(text) = field.value else {
+        return None;
+    };
+    if field.number != 9 {
+        return None;
+    }
+    let parts = parts_of(text, room)?;
+    if are_short(parts) { Some(parts) } else { None }
+}
+
+/// Whether the field at the front is an attribute that is read and written, if it doesn't stay as it is.
 fn is_read_next(text: &[u8], room: u32) -> bool {
     let depth = 101u32.saturating_sub(room);
     match next_field(text, depth) {
-        Ok(Some((field, _rest))) => is_read(field, room.saturating_sub(1)),
+        Ok(Some((field, _rest))) => {
+            is_attribute(field) && parts_in(field, room.saturating_sub(1)).is_none()
+        }
         _ => false,
     }
 }
@@ -121,17 +134,44 @@ fn put_number(copy: &mut Vec<u8>, field: Field<'_>, most: u32) -> Result<bool, A
     Ok(whole)
 }
 
+/// Appends a span's field anew that is an attribute, from its parts if it has them. Tells whether it did.
+fn put_attribute(
+    alloc: Global,
+    copy: &mut Vec<u8>,
+    text: &[u8],
+    parts: Option<Parts<'_>>,
+    spelled: &[u8],
+    room: u32,
+) -> Result<bool, AllocError>
+    requires some { 0 < room }
+    requires spelled { IsField (101 - room) spelled.now (numbered 9 (Bytes text.now)) }
+    ensures { (d most : ℕ) → IfSome parts.entry (λ found. HasParts (room - 1) text.now found)
+        → IfOk result (λ whole. whole ≡ true
+        → PutFor span_step DefaultsAbove (room - 1) d most (numbered 9 (Bytes text.now))
+        copy.old.items copy.new.items) }
+{
+    let Some(found) = parts else {
+        let whole = put_read(alloc, copy, spelled, room)?;
+        return Ok(whole);
+    };
+    let whole = put_parts(copy, text, found, room - 1)?;
+    Ok(whole)
+}
+
 /// Appends a span's field anew, behind fields of numbers up to `most`. Tells whether it did.
 fn put_anew(
     alloc: Global,
     copy: &mut Vec<u8>,
     field: Field<'_>,
+    parts: Option<Parts<'_>>,
     spelled: &[u8],
     most: u32,
     room: u32,
 ) -> Result<bool, AllocError>
     requires spelled { IsField (101 - room) spelled.now (entry field) }
-    ensures { (d : ℕ) → IfOk result (λ whole. whole ≡ true
+    ensures { (d : ℕ)
+        → IfSome parts.entry (λ found. HasParts (room - 1) (held (entry field.entry).value) found)
+        → IfOk result (λ whole. whole ≡ true
         → PutFor span_step DefaultsAbove (room - 1) d most (entry field.entry)
         copy.old.items copy.new.items) }
 {
@@ -149,8 +189,7 @@ fn put_anew(
         return Ok(false);
     }
     let whole = match field.number {
-        9 if is_respellable(text, room - 1) => put_respelled(copy, text, room - 1)?,
-        9 => put_read(alloc, copy, spelled, room)?,
+        9 => put_attribute(alloc, copy, text, parts, spelled, room)?,
         11 => put_read(alloc, copy, spelled, room)?,
         13 => put_read(alloc, copy, spelled, room)?,
         15 if most < 15 => put_read(alloc, copy, spelled, room)?,
@@ -191,11 +230,12 @@ fn put_fields<'a>(
             continue;
         }
         // To read all attributes of a span alone takes longer than to read the span.
-        if is_read(field, room - 1) && is_read_next(rest, room) {
+        let parts = parts_in(field, room - 1);
+        if parts.is_none() && is_attribute(field) && is_read_next(rest, room) {
             return Ok(None);
         }
         copy.extend_from_slice(&from[..from.len() - left.len()])?;
-        if !put_anew(alloc, copy, field, spelled, most, room)? {
+        if !put_anew(alloc, copy, field, parts, spelled, most, room)? {
             return Ok(None);
         }
         most = most.max(field.number);

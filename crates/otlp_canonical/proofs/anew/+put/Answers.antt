@@ -1,13 +1,15 @@
-use Rattle.std.proofs.Common.{rules, arith, ◌≡◌, ◌-◌, ◌<◌, ◌^◌, ℕ, Bool, true, false, is_some, Ok, Some, length, sym, subst, ◌∙◌}
+use Rattle.std.proofs.Common.{rules, arith, ◌≡◌, ◌-◌, ◌<◌, ◌^◌, ◌++◌, ℕ, Bool, true, false, is_some, [], Option, None, Some, Ok, option_map, length, sym, ap, subst, ◌∙◌}
 use Rattle.std.proofs.lemmas.Bool.Decides.{nat_tests}
 use Rattle.pb_wire.specs.Grammar.{Entry, entry}
 use Rattle.pb_wire.specs.Reading.{next_at}
 use Rattle.otlp_trace.specs.Data.{AnyValueData}
 use Rattle.otlp_read.specs.AnyValue.{no_value, no_array, no_list, no_key_value, any_step_in, array_step_in, list_step_in, key_value_step}
-use Rattle.otlp_read.specs.Nested.{known_of_any}
-use Rattle.otlp_canonical.specs.Anew.{IsPair, IsFirst}
+use Rattle.otlp_read.specs.Nested.{known_of_any, known_of_key_value}
+use Rattle.otlp_read.specs.Walk.{walk}
+use Rattle.otlp_canonical.specs.Anew.{gather, IsPair, IsFirst, IsValue}
 use Rattle.otlp_canonical.specs.Inner.{ReadAlike, FieldAlike, PutFor}
-use Rattle.otlp_canonical.proofs.Respelled.{spelled_put, any_spelled, wrapped, array_put, list_put, nothing_alike, value_alike, none_put, one_put, all_put, value_put, pair_put, key_alike, pair_alike}
+use Rattle.otlp_canonical.proofs.Members.{bare_alike, member_alike}
+use Rattle.otlp_canonical.proofs.Respelled.{spelled_put, any_spelled, wrapped, array_put, list_put, none_put, one_put, all_put, value_put, pair_put, key_alike, pair_alike}
 use Rattle.otlp_canonical.proofs.Inside.{holding}
 use Rattle.otlp_canonical.proofs.Parts.{nothing}
 use Rattle.otlp_canonical.proofs.anew.+put.Goals as goal
@@ -18,10 +20,14 @@ put_pair-returns-then-not-pair t c whole =
     let none : c.in-Some.pair.has_value ≡ false = search rules in
     let key = c.in-Some.pair.key.now in
     let value = c.in-Some.pair.value.now in
-    let is : IsPair (101 - c.args.room) c.args.text.now key value c.in-Some.pair.has_value = subst (λ (d : ℕ). IsPair d c.args.text.now key value c.in-Some.pair.has_value) at c.in-Some.ensures in
-    let bare : IsPair (101 - c.args.room) c.args.text.now key value false = subst (λ (has : Bool). IsPair (101 - c.args.room) c.args.text.now key value has) none is in
-    let fits : length c.put_some_bytes.new.out.items < 2 ^ 64 = omega arith in
-    key_alike c.args.room c.args.text.now key value c.args.copy.now.items c.put_some_bytes.new.out.items (omega arith) bare fits (search rules)
+    let is : IsPair (101 - c.args.room) c.args.text.now key value c.in-Some.pair.has_value c.in-Some.pair.unknown = subst (λ (d : ℕ). IsPair d c.args.text.now key value c.in-Some.pair.has_value c.in-Some.pair.unknown) at c.in-Some.ensures in
+    let bare : IsPair (101 - c.args.room) c.args.text.now key value false c.in-Some.pair.unknown = subst (λ (has : Bool). IsPair (101 - c.args.room) c.args.text.now key value has c.in-Some.pair.unknown) none is in
+    let keyed = c.put_some_bytes.new.out.items in
+    let new = c.put_unknown.new.copy.items in
+    let fits : length keyed < 2 ^ 64 = omega arith in
+    let gathered : walk (gather known_of_key_value no_key_value) c.saturating_sub-depth.result [] c.args.text.now ≡ Ok bare.kept = subst (λ (d : ℕ). walk (gather known_of_key_value no_key_value) d [] c.args.text.now ≡ Ok bare.kept) (sym at) bare.gathered in
+    let kept : new ≡ keyed ++ bare.kept = c.in_ok-whole.ensures no_key_value bare.kept gathered bare.none whole in
+    key_alike c.args.room c.in-Some.pair.unknown c.args.text.now key value c.args.copy.now.items keyed new (omega arith) bare fits (search rules) kept
 
 pub put_pair-returns : goal.put_pair-returns
 put_pair-returns t c whole =
@@ -29,32 +35,52 @@ put_pair-returns t c whole =
     let some : c.in-Some.pair.has_value ≡ true = search rules in
     let key = c.in-Some.pair.key.now in
     let value = c.in-Some.pair.value.now in
-    let is : IsPair (101 - c.args.room) c.args.text.now key value c.in-Some.pair.has_value = subst (λ (d : ℕ). IsPair d c.args.text.now key value c.in-Some.pair.has_value) at c.in-Some.ensures in
-    let both : IsPair (101 - c.args.room) c.args.text.now key value true = subst (λ (has : Bool). IsPair (101 - c.args.room) c.args.text.now key value has) some is in
+    let is : IsPair (101 - c.args.room) c.args.text.now key value c.in-Some.pair.has_value c.in-Some.pair.unknown = subst (λ (d : ℕ). IsPair d c.args.text.now key value c.in-Some.pair.has_value c.in-Some.pair.unknown) at c.in-Some.ensures in
+    let both : IsPair (101 - c.args.room) c.args.text.now key value true c.in-Some.pair.unknown = subst (λ (has : Bool). IsPair (101 - c.args.room) c.args.text.now key value has c.in-Some.pair.unknown) some is in
     let keyed = c.put_some_bytes.new.out.items in
     let mid = c.put_value.new.copy.items in
-    let new = c.wrap_in_field.new.out.items in
+    let valued = c.wrap_in_field.new.out.items in
+    let new = c.put_unknown-2.new.copy.items in
     let a : ReadAlike any_step_in no_value (c.args.room - 1) value keyed mid = search rules in
     let fits : length mid < 2 ^ 64 = omega arith in
     let keyed_fits : length keyed < 2 ^ 64 = omega arith in
-    let f : FieldAlike any_step_in no_value (c.args.room - 1) 2 value keyed new = wrapped any_step_in no_value (c.args.room - 1) 2 c.len-start.result value keyed mid new (search rules) fits (search rules) a in
-    pair_alike c.args.room c.args.text.now key value c.args.copy.now.items keyed new (omega arith) both keyed_fits (search rules) f
+    let f : FieldAlike any_step_in no_value (c.args.room - 1) 2 value keyed valued = wrapped any_step_in no_value (c.args.room - 1) 2 c.len-start.result value keyed mid valued (search rules) fits (search rules) a in
+    let gathered : walk (gather known_of_key_value no_key_value) c.saturating_sub-depth.result [] c.args.text.now ≡ Ok both.kept = subst (λ (d : ℕ). walk (gather known_of_key_value no_key_value) d [] c.args.text.now ≡ Ok both.kept) (sym at) both.gathered in
+    let kept : new ≡ valued ++ both.kept = c.in_ok-whole-2.ensures no_key_value both.kept gathered both.none whole in
+    pair_alike c.args.room c.in-Some.pair.unknown c.args.text.now key value c.args.copy.now.items keyed valued new (omega arith) both keyed_fits (search rules) f kept
 
-pub put_value-returns-then-is_empty : goal.put_value-returns-then-is_empty
-put_value-returns-then-is_empty t c whole =
-    let none : length c.args.text.now ≡ 0 = grind (arith, nat_tests) in
-    nothing_alike any_step_in no_value c.args.room c.args.text.now c.args.copy.now.items (nothing c.args.text.now none)
+pub put_value-returns-in_default-member : goal.put_value-returns-in_default-member
+put_value-returns-in_default-member t c whole =
+    let at : c.saturating_sub-depth.result ≡ 101 - c.args.room = search rules in
+    let d = 101 - c.args.room in
+    let text = c.args.text.now in
+    let old = c.args.copy.now.items in
+    let size = c.in-Some.chosen.unknown in
+    let member : option_map entry c.in-Some.chosen.member ≡ None = ap (option_map entry) c.in_default-member.is in
+    let there : IsValue d text (option_map entry c.in-Some.chosen.member) size = subst (λ (n : ℕ). IsValue n text (option_map entry c.in-Some.chosen.member) size) at c.in-Some.ensures in
+    let is : IsValue d text None size = subst (λ (o : Option Entry). IsValue d text o size) member there in
+    let new = c.put_unknown.new.copy.items in
+    let gathered : walk (gather known_of_any no_value) c.saturating_sub-depth.result [] text ≡ Ok is.kept = subst (λ (n : ℕ). walk (gather known_of_any no_value) n [] text ≡ Ok is.kept) (sym at) is.gathered in
+    let kept : new ≡ old ++ is.kept = c.in_ok-whole.ensures no_value is.kept gathered is.none whole in
+    bare_alike c.args.room size text old new (omega arith) is kept
 
 pub put_value-returns : goal.put_value-returns
 put_value-returns t c whole =
-    let d = c.saturating_sub-depth.result in
-    let at : d ≡ 101 - c.args.room = search rules in
-    let field = entry c.in-Ok-Some.field in
-    let rest = c.in-Ok-Some.rest.now in
-    let found : next_at d c.args.text.now ≡ Ok (Some (field, rest)) = search rules in
-    let there : next_at (101 - c.args.room) c.args.text.now ≡ Ok (Some (field, rest)) = subst (λ (n : ℕ). next_at n c.args.text.now ≡ Ok (Some (field, rest))) at found in
-    let short : length rest ≡ 0 = grind (arith, nat_tests) in
-    value_alike c.args.room c.args.text.now rest c.args.copy.now.items c.put_kind.new.copy.items field (omega arith) there (nothing rest short) (c.in_ok-whole.ensures (101 - c.args.room) whole)
+    let at : c.saturating_sub-depth.result ≡ 101 - c.args.room = search rules in
+    let d = 101 - c.args.room in
+    let text = c.args.text.now in
+    let old = c.args.copy.now.items in
+    let size = c.in-Some.chosen.unknown in
+    let field = entry c.in-Some-member.field in
+    let member : option_map entry c.in-Some.chosen.member ≡ Some field = ap (option_map entry) c.in-Some-member.is in
+    let there : IsValue d text (option_map entry c.in-Some.chosen.member) size = subst (λ (n : ℕ). IsValue n text (option_map entry c.in-Some.chosen.member) size) at c.in-Some.ensures in
+    let is : IsValue d text (Some field) size = subst (λ (o : Option Entry). IsValue d text o size) member there in
+    let mid = c.put_kind.new.copy.items in
+    let new = c.put_unknown-2.new.copy.items in
+    let put : PutFor any_step_in IsFirst (c.args.room - 1) d 0 field old mid = c.in_ok-put_kind.ensures d (search rules) in
+    let gathered : walk (gather known_of_any no_value) c.saturating_sub-depth.result [] text ≡ Ok is.kept = subst (λ (n : ℕ). walk (gather known_of_any no_value) n [] text ≡ Ok is.kept) (sym at) is.gathered in
+    let kept : new ≡ mid ++ is.kept = c.in_ok-whole-2.ensures no_value is.kept gathered is.none whole in
+    member_alike c.args.room size text old mid new field (omega arith) is put kept
 
 pub put_kind-returns-in_ok-wrap_in_field-in-Bytes : goal.put_kind-returns-in_ok-wrap_in_field-in-Bytes
 put_kind-returns-in_ok-wrap_in_field-in-Bytes t c d whole =
