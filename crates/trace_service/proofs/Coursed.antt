@@ -50,15 +50,15 @@ pub course_from : {E : Type 0} (mine port : Bool) (reads : Reads) (r : Result �
     → (others : List CallerState) × (callers ≡ new ∷ others)
     → IfOk r (λ lost. IsDirected mine reads settings (record { present = present; changes = changes }) all input old before (so_far, 0) new last (written, lost))
     → IfOk r (λ lost. IsCourse port reads settings present shards input fresh (so_far, 0) callers (written, lost))
-course_from mine port reads (Ok x) settings present changes all shards input so_far written old fresh new before last callers looked_after same is none own directed = record {
+course_from mine port reads (Ok x) settings present changes all shards input so_far written old fresh new before last callers has_admin_port same is none own directed = record {
   before = before;
   last = last;
   own = new;
   others = own.0;
   callers_are = own.1;
-  directed = rw (looked_after, same, is, none) at directed;
+  directed = rw (has_admin_port, same, is, none) at directed;
 }
-course_from mine port reads (Err e) settings present changes all shards input so_far written old fresh new before last callers looked_after same is none own directed = tt
+course_from mine port reads (Err e) settings present changes all shards input so_far written old fresh new before last callers has_admin_port same is none own directed = tt
 
 -- the same where the input didn't fail, of so many shards, of that new caller and of those tenants
 pub course_told : {E : Type 0} (port : Bool) (reads : Reads) (r : Result ℕ E) (lost : ℕ) (settings table : SettingsData) (tenants present : Present) (slots shards : ℕ)

@@ -4,7 +4,7 @@ use Rattle.http1.specs.Fields.{Header, known_fields}
 use Rattle.http1.specs.declared.fields.ContentLength.{ContentLength}
 use Rattle.http1.specs.declared.fields.ContentLength.TheVariants.{Absent, Value, Invalid}
 use Rattle.http_edge.specs.Limits.{max_body}
-use Rattle.http_edge.specs.Message.{Frame, sized, chunked, framing_by}
+use Rattle.http_edge.specs.Message.{sized, chunked, framing_by}
 
 -- what is claimed with so many bytes more, where that isn't more than may be
 abbrev pub claimed_with : ℕ → ℕ → ℕ → Option ℕ

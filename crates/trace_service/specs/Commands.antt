@@ -1,11 +1,12 @@
 -- What the input asks for, and what is done for it and at its end. This project's own rule.
-use Rattle.std.specs.Prelude.{◌≡◌, ℕ, ◌%◌, ◌<◌, List, [], ◌∷◌, ◌++◌, length, filter, not, take, ◌==◌, if◌then◌else◌, codes, All, Bool, true, false, Option, Some, None, IfSome}
+use Rattle.std.specs.Prelude.{◌≡◌, ℕ, ◌%◌, ◌<◌, List, [], ◌∷◌, ◌++◌, length, filter, not, take, ◌==◌, if◌then◌else◌, codes, map, All, Bool, true, false, Option, Some, None, IfSome}
 use Rattle.std.specs.Io.BufRead.{drop_through}
 use Rattle.export_edge.specs.Work.{Through}
 use Rattle.machine_hub.specs.declared.receipt.Receipt.{Receipt}
 use Rattle.machine_hub.specs.Hub.{IsRefusedOn}
 use Rattle.otlp_front.specs.Route.{names_in, number_of}
 use Rattle.replay_script.specs.Answer.{report_text, refused_text}
+use Rattle.replay_script.specs.Line.{lines_of}
 use Rattle.shared_hub.specs.Logs.{CallerState, IsStepOn, IsEmptyOn}
 use Rattle.tail_settings.specs.Change.{strike, after}
 use Rattle.tail_settings.specs.Settings.{SettingsData}
@@ -38,6 +39,10 @@ line_in (b ∷ bytes) = if b == 10 then [] else b ∷ line_in bytes
 -- space, and a path of 4,095 bytes
 abbrev pub line_room : ℕ
 line_room = 4100
+
+-- the lines of the text, of each as many bytes as are kept
+abbrev pub kept_lines : List ℕ → List (List ℕ)
+kept_lines text = map (take line_room) (lines_of text)
 
 -- the text's first line was taken, of which the first bytes are kept, and what stands behind its line feed is left; or
 -- there is no text
@@ -190,19 +195,13 @@ TenantsAreInForce reads =
     → AreAnswered port reads first shards (unchanged (names_in first).tenants) old before so_far lines left new last
     written → AreInForce first left
 
--- these are the text's first lines, and that is what stands behind them
-pub data AreFirst (text : List ℕ) : List (List ℕ) → List ℕ → Type 0 where
-  no_line : AreFirst text [] text
-  line_more : (lines : List (List ℕ)) (rest line : List ℕ) (after : List ℕ) → AreFirst text lines rest
-      → TakesLine rest (Some after) line true → AreFirst text (lines ++ line ∷ []) after
-
 -- all lines of the input were answered: of one that is known these are all its lines. These tenants
 -- are present then, and these changes were made
 pub record AreCommandsRead (port : Bool) (reads : Reads) (first : SettingsData) (shards : ℕ)
     (input : Option (List ℕ)) (standing : Standing) (old : CallerState) (before : ℕ) (so_far : Output) (left : Standing)
     (new : CallerState) (last : ℕ) (written : Output) : Type 0 where
   pub lines : List (List ℕ)
-  pub known : IfSome input (λ text. AreFirst text lines [])
+  pub known : IfSome input (λ text. lines ≡ kept_lines text)
   pub answered : AreAnswered port reads first shards standing old before so_far lines left new last written
 
 -- each of these tenants was seen to hold no span

@@ -197,9 +197,9 @@ where
         output: &mut O,
         lost: &mut u64,
         name: &[u8],
-        is_looked_after: bool,
+        has_admin_port: bool,
     )
-        ensures retired { RetiresNamed is_looked_after name.now self.old roster.old
+        ensures retired { RetiresNamed has_admin_port name.now self.old roster.old
             (O.contents output.old, lost.old) self.new roster.new
             (O.contents output.new, lost.new) }
         ensures hub { self.new.context.hub ≡ self.old.context.hub }
@@ -209,7 +209,7 @@ where
         };
         let number = tenant.number;
         self.make(number, Chore::Drain);
-        self.await_tenant(number, is_looked_after);
+        self.await_tenant(number, has_admin_port);
         let outcome = self.make(number, Chore::Retire);
         let line = self.line_again(CommandReply::Outcome {
             name: tenant.name.as_str(),
@@ -221,8 +221,8 @@ where
 
     /// Waits until this tenant holds no span, or with an admin port until it is told there to end: else
     /// a back end that hangs would keep all others from being drained.
-    fn await_tenant(&mut self, tenant: u32, is_looked_after: bool)
-        ensures empty { is_looked_after ≡ false → IsEmptyOn self.old.context.caller
+    fn await_tenant(&mut self, tenant: u32, has_admin_port: bool)
+        ensures empty { has_admin_port ≡ false → IsEmptyOn self.old.context.caller
             (tenant % length self.old.context.hub.now) tenant true }
         ensures caller { self.new.context.caller ≡ self.old.context.caller }
         ensures last { self.new.beat.last ≡ self.old.beat.last }
@@ -233,7 +233,7 @@ where
             if self.context.is_empty(tenant) {
                 return;
             }
-            if is_looked_after && self.context.signals().is_end_asked() {
+            if has_admin_port && self.context.signals().is_end_asked() {
                 return;
             }
             self.beat.with_short_pauses().pause();

@@ -70,14 +70,14 @@ where
         let mut roster = mem::replace(&mut self.roster, Roster::new(self.alloc));
         observer.observe(Stage::Serving);
         let mut lost = 0;
-        let is_looked_after = self.admin.is_some();
+        let has_admin_port = self.admin.is_some();
         let heard = self.read_commands(
             &mut roster,
             input,
             output,
             &mut lost,
             observer,
-            is_looked_after,
+            has_admin_port,
         );
         observer.observe(Stage::Draining);
         self.drain_all(roster.tenants());
@@ -107,10 +107,10 @@ where
         output: &mut O,
         lost: &mut u64,
         observer: &mut L,
-        is_looked_after: bool,
+        has_admin_port: bool,
     ) -> Result<(), ServiceFault>
         ensures commands_read { OnOk result
-            (ReadsCommands is_looked_after D.reads J.first (I.remaining input.old) self.old
+            (ReadsCommands has_admin_port D.reads J.first (I.remaining input.old) self.old
             roster.old (O.contents output.old, lost.old) self.new roster.new
             (O.contents output.new, lost.new)) }
         ensures hub { self.new.context.hub ≡ self.old.context.hub }
@@ -124,7 +124,7 @@ where
                 let line = line.as_slice();
                 observer.observe(Stage::Skipped { line });
             }
-            self.run_command(roster, output, lost, line.as_slice(), is_looked_after);
+            self.run_command(roster, output, lost, line.as_slice(), has_admin_port);
         }
         unreachable!()
     }
@@ -136,9 +136,9 @@ where
         output: &mut O,
         lost: &mut u64,
         line: &[u8],
-        is_looked_after: bool,
+        has_admin_port: bool,
     )
-        ensures answered { Answers is_looked_after D.reads J.first line.now self.old roster.old
+        ensures answered { Answers has_admin_port D.reads J.first line.now self.old roster.old
             (O.contents output.old, lost.old) self.new roster.new
             (O.contents output.new, lost.new) }
         ensures hub { self.new.context.hub ≡ self.old.context.hub }
@@ -150,7 +150,7 @@ where
             return self.add(roster, output, lost, path);
         }
         if let Some(name) = line.strip_prefix(b"retire ".as_slice()) {
-            self.retire(roster, output, lost, name, is_looked_after);
+            self.retire(roster, output, lost, name, has_admin_port);
         }
     }
 

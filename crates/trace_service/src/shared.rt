@@ -46,12 +46,12 @@ impl ServiceLimits {
     pub fn of(
         global: &GlobalSettings,
         options: &ServiceOptions,
-        is_looked_after: bool,
+        has_admin_port: bool,
     ) -> ServiceLimits
         ensures senders { result.senders ≡ unwrap_or options.now.senders global.now.senders }
         ensures receivers { result.receivers ≡ unwrap_or options.now.connections
             global.now.receivers }
-        ensures admins { result.admins ≡ (if is_looked_after then ADMINS else 0) }
+        ensures admins { result.admins ≡ (if has_admin_port then ADMINS else 0) }
         ensures few_admins { result.admins ≤ ADMINS }
         ensures parts { result.parts ≡ global.now.parts }
         ensures rest { result.patience.rest ≡ options.now.client_timeout }
@@ -63,7 +63,7 @@ impl ServiceLimits {
         ServiceLimits {
             senders: options.senders.unwrap_or(global.senders),
             receivers: options.connections.unwrap_or(global.receivers),
-            admins: admins_of(is_looked_after),
+            admins: admins_of(has_admin_port),
             patience: Patience {
                 rest: options.client_timeout,
                 request: options.request_timeout,
@@ -77,11 +77,11 @@ impl ServiceLimits {
 }
 
 /// So many threads serve the admin port, if there is one.
-fn admins_of(is_looked_after: bool) -> u32
-    ensures admins { result ≡ (if is_looked_after then ADMINS else 0) }
+fn admins_of(has_admin_port: bool) -> u32
+    ensures admins { result ≡ (if has_admin_port then ADMINS else 0) }
     ensures few { result ≤ ADMINS }
 {
-    if is_looked_after { ADMINS } else { 0 }
+    if has_admin_port { ADMINS } else { 0 }
 }
 
 /// What all threads work at, from their start to their end.

@@ -149,7 +149,7 @@ where
             );
         }
         Role::Sender => send_all(shared, worker),
-        Role::Admin => look_after(shared, &mut worker.context, &mut worker.buffer),
+        Role::Admin => serve_admin(shared, &mut worker.context, &mut worker.buffer),
         Role::Receiver => receive_all(
             shared.rt,
             &shared.entrance,
@@ -204,7 +204,7 @@ fn settle(role: Role, reserve: &Reserve) {
 }
 
 /// Serves the admin port, if there is one.
-fn look_after<'h, J, R>(
+fn serve_admin<'h, J, R>(
     shared: &Shared<'h, J, R>,
     context: &mut WorkerContext<'h, J, R>,
     buffer: &mut Vec<u8>,

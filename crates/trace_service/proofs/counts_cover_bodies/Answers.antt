@@ -1,5 +1,5 @@
-use Rattle.std.proofs.Common.{◌≡◌, ℕ, ◌≤◌, Bool, true, false, ◌&&◌, if◌then◌else◌, List, [], ◌∷◌, codes, Option, Some, None, refl, sym, ap, arith}
-use Rattle.http1.specs.Fields.{Header, content_length, is_chunked, is_number, known_fields, values_named}
+use Rattle.std.proofs.Common.{◌≡◌, ℕ, ◌≤◌, Bool, true, false, ◌&&◌, if◌then◌else◌, List, [], ◌∷◌, codes, Option, Some, None, refl, ap, arith}
+use Rattle.http1.specs.Fields.{content_length, is_chunked, is_number, known_fields, values_named}
 use Rattle.http1.specs.declared.fields.ContentLength.TheVariants.{Value, Invalid}
 use Rattle.http1.specs.declared.framing.Framing.TheVariants.{NoBody, Chunked}
 use Rattle.http_edge.specs.Fields.{field, framing_by_fields, framing_by_length, framing_in, single}

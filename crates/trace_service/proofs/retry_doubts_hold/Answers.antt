@@ -1,11 +1,11 @@
-use Rattle.std.proofs.Common.{◌≡◌, ◌≢◌, ◌≤◌, ◌<◌, ◌+◌, ◌-◌, ◌*◌, ◌/◌, ◌^◌, ◌||◌, ◌&&◌, ◌==◌, ◌++◌, not, ℕ, Bool, true, false, cond, List, [], ◌∷◌, arith, refl, sym, ap, ◌∙◌, max}
+use Rattle.std.proofs.Common.{◌≡◌, ◌≢◌, ◌≤◌, ◌<◌, ◌+◌, ◌-◌, ◌*◌, ◌/◌, ◌^◌, ◌||◌, ◌&&◌, ◌==◌, not, ℕ, Bool, true, false, cond, List, [], arith, refl, max}
 use Rattle.std.specs.Prelude.{nat_le, nat_lt}
 use Rattle.std.proofs.Math.Nat.{le-max_left}
-use Rattle.std.proofs.lemmas.Bool.{le-leb, leb-true, leb-false, lt-ltb, le-ltb, eqb-true, eqb-false, eq-eqb, false_from_ne_true, or_parts, and_parts, lt-leb, ltb-true}
-use Rattle.send_retry.specs.Delay.{NextData, Delay, GiveUp, StateData, first_state, spread, picked, delay_of, with_interval, next_interval, is_too_late, next_at, next_delay}
+use Rattle.std.proofs.lemmas.Bool.{leb-true, leb-false, lt-ltb, eqb-true, eq-eqb, false_from_ne_true, or_parts, and_parts, lt-leb, ltb-true}
+use Rattle.send_retry.specs.Delay.{Delay, GiveUp, StateData, first_state, spread, picked, delay_of, with_interval, next_interval, is_too_late, next_at, next_delay}
 use Rattle.settings_check.specs.Doubts.{least_delay, retry_line}
 use Rattle.tail_settings.specs.RetryOnFailure.{RetryData}
-use Rattle.trace_service.specs.Retried.{IsNeverSentAgain, RetryDoubtsHold, RetriesAreMade}
+use Rattle.trace_service.specs.Retried.{IsNeverSentAgain}
 use Rattle.trace_service.proofs.retry_doubts_hold.Goals as goal
 
 -- a choice between no line and one that has a byte

@@ -26,4 +26,4 @@ returns-in-Receiver g c =
 pub returns-in-Admin : goal.returns-in-Admin
 returns-in-Admin g c =
     only_looked g.J.Naming.first (length g.J.Naming.slots) g.J.Naming.lane g.J.Naming.fresh c.args.worker.now.context.caller _
-    c.args.worker.now.seat _ c.requires.new refl c.requires.fresh c.look_after.ensures
+    c.args.worker.now.seat _ c.requires.new refl c.requires.fresh c.serve_admin.ensures

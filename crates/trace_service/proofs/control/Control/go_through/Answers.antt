@@ -19,6 +19,6 @@ returns g c =
     (g.O.Write.contents c.read_commands-heard.new.output, c.read_commands-heard.new.lost) _
     _ c.read_commands-heard.new.self.context.caller c.drain_all.new.self.context.caller _
     _ c.read_commands-heard.new.self.beat.last c.drain_all.new.self.beat.last _
-    c.in_ok-heard.was (rw (c.is_some-is_looked_after.ensures, c.replace-roster.ensures.value) at heard.commands_read)
+    c.in_ok-heard.was (rw (c.is_some-has_admin_port.ensures, c.replace-roster.ensures.value) at heard.commands_read)
     (rw (heard.hub, c.tenants.ensures) at drained.drained) (rw (hub, c.tenants-2.ensures) at waited.empty)
     (rw (waited.hub ∙ hub, waited.caller, waited.last, c.tenants-3.ensures) at c.print_reports.ensures.reported)
