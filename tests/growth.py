@@ -89,6 +89,31 @@ def unknown_fields(n):
     return tenant(), post(0, request([number_field(100, 1) * n + ids(1, 1)])) + DUE, "job a 1 "
 
 
+def unknown_in_attribute(n):
+    """One attribute with n unknown fields before its key, and n in its value, so that both are put anew."""
+    unknown = number_field(99, 1) * n
+    text = unknown + piece(1, b"k") + piece(2, unknown + SOME_VALUE)
+    return tenant(), post(0, request([ids(1, 1) + piece(9, text)])) + DUE, "job a 1 "
+
+
+def members_of_value(n):
+    """One attribute whose value has n members, of which the last counts."""
+    text = piece(1, b"k") + piece(2, SOME_VALUE * n)
+    return tenant(), post(0, request([ids(1, 1) + piece(9, text)])) + DUE, "job a 1 "
+
+
+def attributes_of_two_members(n):
+    """One span of n attributes whose values have two members each, so that each is put anew."""
+    text = piece(9, piece(1, b"k") + piece(2, SOME_VALUE + number_field(3, 5)))
+    return tenant(), post(0, request([ids(1, 1) + text * n])) + DUE, "job a 1 "
+
+
+def attributes_of_two_values(n):
+    """The same with two values each, for which the whole span is read and written."""
+    text = piece(9, piece(1, b"k") + piece(2, SOME_VALUE) * 2)
+    return tenant(), post(0, request([ids(1, 1) + text * n])) + DUE, "job a 1 "
+
+
 def spans_reversed(n):
     """n spans whose fields stand in reverse order, so that each is copied in order."""
     fields = [piece(5, b"name"), number_field(6, 2), time_field(7, 1), time_field(8, 2), attribute(9, "k", "v"), ERROR]
@@ -252,6 +277,10 @@ SHAPES = {
     "attributes of a span": (attributes, 12_500),
     "nested attributes": (nesting, 500),
     "unknown fields": (unknown_fields, 25_000),
+    "unknown fields of an attribute": (unknown_in_attribute, 25_000),
+    "members of a value": (members_of_value, 50_000),
+    "attributes of two members": (attributes_of_two_members, 12_500),
+    "attributes of two values": (attributes_of_two_values, 12_500),
     "spans in reverse order": (spans_reversed, 4_000),
     "spans with defaults": (spans_with_defaults, 8_000),
     "spans sorted for nothing": (spans_sorted_for_nothing, 4_000),
