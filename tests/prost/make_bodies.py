@@ -12,8 +12,10 @@ of some 480 bytes, with 19 fields each: in their order (ordered.pb), with the fl
 with a count of 0 besides (count.pb), with the name at the end (last.pb), in reverse order (reverse.pb), so with the
 name twice (twice.pb), with the end's time twice (time.pb), or the status, empty (status.pb), with a message in one and
 a code in the other (apart.pb) or with both in both (statuses.pb), with each attribute's value before its key (keys.pb)
-or the lengths of its key and its text in four bytes (texts.pb), and with one attribute more, whose value has two
-members (members.pb). Each event, link and status of the stored body is written in reverse order in events.pb."""
+or the lengths of its key and its text in four bytes (texts.pb), with one attribute more, whose value has two members
+(members.pb), with two in the value of each (pairs.pb), and with a field that isn't known before each key (unknown.pb)
+or before the member of each value (within.pb). Each event, link and status of the stored body is written in reverse
+order in events.pb."""
 import pathlib
 import struct
 import sys
@@ -165,6 +167,26 @@ def long_texts(content):
     return long_piece(1, key) + piece(2, b"".join(long_piece(1, text) for _, text, _ in fields(value)))
 
 
+UNKNOWN = number_of_none(99)[1]
+
+
+def unknown_first(content):
+    """An attribute with a field that isn't known before its key."""
+    return UNKNOWN + content
+
+
+def unknown_in_value(content):
+    """An attribute with a field that isn't known before the member of its value."""
+    (_, key, _), (_, value, _) = fields(content)
+    return piece(1, key) + piece(2, UNKNOWN + value)
+
+
+def two_members(content):
+    """An attribute whose value has another member behind its text."""
+    (_, key, _), (_, value, _) = fields(content)
+    return piece(1, key) + piece(2, value + varint(3 << 3) + varint(5))
+
+
 def some(size, make):
     found, length = [], 0
     while length < size:
@@ -283,6 +305,9 @@ def main():
     bodies |= {"keys": changed(bodies["ordered"], each_inside({9}, reversed_fields)),
                "texts": changed(bodies["ordered"], each_inside({9}, long_texts)),
                "members": changed(bodies["ordered"], with_members),
+               "unknown": changed(bodies["ordered"], each_inside({9}, unknown_first)),
+               "within": changed(bodies["ordered"], each_inside({9}, unknown_in_value)),
+               "pairs": changed(bodies["ordered"], each_inside({9}, two_members)),
                "events": changed(stored, each_inside({11, 13, 15}, reversed_fields))}
     for name, body in bodies.items():
         (folder / f"{name}.pb").write_bytes(body)
