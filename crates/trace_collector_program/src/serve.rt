@@ -14,6 +14,7 @@ use crate::task::{ServeOptions, VERSION};
 use crate::watched::Watched;
 use crate::{ProgramFault, READ_SIZE};
 use decision_cache::HashKeys;
+use std::alloc::Global;
 use std::fs::File;
 use std::io;
 use std::io::{BufRead, BufReader, ErrorKind, Write};
@@ -135,11 +136,23 @@ where
         listener: &listener,
         options: service_options(options, keys),
     };
+    give_back_at_once(rt.alloc());
     let served = match &door {
         Some(door) => serve_at_desk(launch, door, output, course, reason),
         None => serve_input(launch, output, course, reason),
     };
     whole(served?)
+}
+
+/// So many bytes, 8 MiB, are taken and given back at once.
+const GIVEN_BACK: usize = 8_388_608;
+
+/// By a piece of memory that was given back the GNU C library tells which ones come and go: from then on it keeps those
+/// up to this size in its heaps, and the end of a heap until twice as much is free there (mallopt(3),
+/// `M_MMAP_THRESHOLD`). So batches aren't given new pages each time. Where it is told otherwise by its environment, or
+/// there is no memory for it, nothing changes.
+fn give_back_at_once(alloc: Global) {
+    let _ = Vec::<u8>::with_capacity(alloc, GIVEN_BACK);
 }
 
 /// The threads that hold a connection each, by settings and options.
