@@ -144,8 +144,8 @@ where
     whole(served?)
 }
 
-/// So many bytes, 8 MiB, are taken and given back at once.
-const GIVEN_BACK: usize = 8_388_608;
+/// So many bytes, 1 MiB, are taken and given back at once.
+const GIVEN_BACK: usize = 1_048_576;
 
 /// By a piece of memory that was given back the GNU C library tells which ones come and go: from then on it keeps those
 /// up to this size in its heaps, and the end of a heap until twice as much is free there (mallopt(3),
