@@ -126,8 +126,8 @@ def spans_with_defaults(n):
     return tenant(), post(0, request([ids(1, at) + defaults for at in range(n)])) + DUE, "job a 1 "
 
 
-def spans_sorted_for_nothing(n):
-    """n spans in reverse order with a name twice, each of which is read as a message and written anew."""
+def spans_with_two_names(n):
+    """n spans in reverse order with a name twice, of which each is copied in order, with the last name."""
     name = piece(5, b"name")
     others = name + ERROR + attribute(9, "k", "v") + name
     return tenant(), post(0, request([others + ids(1, at) for at in range(n)])) + DUE, "job a 1 "
@@ -283,7 +283,7 @@ SHAPES = {
     "attributes of two values": (attributes_of_two_values, 12_500),
     "spans in reverse order": (spans_reversed, 4_000),
     "spans with defaults": (spans_with_defaults, 8_000),
-    "spans sorted for nothing": (spans_sorted_for_nothing, 4_000),
+    "spans with two names": (spans_with_two_names, 4_000),
     "fields of a span in turn": (fields_in_turn, 8_000),
     "fields of a span reversed": (fields_reversed, 8_000),
     "a resource that stands again": (resource_again, 10_000),
