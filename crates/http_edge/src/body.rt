@@ -1,7 +1,7 @@
 //! The body of a message.
 ghost use Rattle.std.specs.Prelude.{◌≡◌, ◌≢◌, ℕ, ◌+◌, ◌<◌, ◌≤◌, min, List, [], ◌++◌, length, drop, vec_capacity, IfOk, OnOk, OnErr, true, false, Err, Ok};
 ghost use Rattle.http_edge.specs.Message.{sized, chunked, max_body};
-ghost use Rattle.http_edge.specs.Limits.{first_room};
+ghost use Rattle.http_edge.specs.Limits.{first_room, max_read};
 ghost use Rattle.http_line.specs.Line.{Moves};
 ghost use Rattle.http_edge.specs.Steps.{work, HasFailed};
 ghost use Rattle.http_edge.specs.Stages.{frame_by, bytes_due, Gathers, IsAt, IsPieces, IsRead};
@@ -9,12 +9,16 @@ ghost use Rattle.http_edge.specs.Stages.{frame_by, bytes_due, Gathers, IsAt, IsP
 use crate::chunks::{ChunkedState, Piece, bytes_due, next_piece};
 use crate::head::BodyKind;
 use crate::limits::MAX_BODY;
-use crate::wire::{EdgeFault, READ_AT_MOST, Room, Watch, drop_front, fill};
+use crate::wire::{EdgeFault, READ_AT_MOST, Room, Watch, drop_front, fill, fill_behind};
 use http_line::Line;
 use std::alloc::{AllocError, Global};
 
 /// Room for so many bytes of a body is made before they come, so that a head alone takes no more.
 const FIRST_ROOM: usize = 1_048_576;
+
+/// The first read behind a head asks for so many bytes of the body at most, and each later one.
+const FIRST_READ: usize = 16_384;
+const MOST_READ: usize = 65_536;
 
 /// What came of a body. A whole one that wasn't wanted is empty.
 #[derive(Debug, Drop)]
@@ -90,7 +94,7 @@ pub(crate) fn read_body<L: Line>(
 {
     match kind {
         BodyKind::Sized(len) => if wanted {
-            read_sized(alloc, line, room, buffer, from, len as usize)
+            read_sized(alloc, line, buffer, from, len as usize)
         } else {
             skip_sized(alloc, line, room, buffer, from, len as usize)
         },
@@ -101,11 +105,11 @@ pub(crate) fn read_body<L: Line>(
     }
 }
 
-/// Reads a body of so many bytes. What has come of it is copied, and the others are read to behind it.
+/// Reads a body of so many bytes. What has come of it is copied, and the others are read to behind it, more at a time
+/// the more come, so that room which nothing was read to is neither touched nor filled for long.
 fn read_sized<L: Line>(
     alloc: Global,
     line: &mut L,
-    room: &mut Room,
     buffer: &mut Vec<u8>,
     from: usize,
     len: usize,
@@ -128,13 +132,15 @@ fn read_sized<L: Line>(
     ensures no_write { result ≢ Err EdgeFault.WriteFailed }
 {
     let mut body = take_front(alloc, buffer, from, len)?;
+    let mut most = FIRST_READ;
     'reads: while body.len() < len {
-        let due = next_stage(body.len(), len) - body.len();
+        let come = body.len();
+        let due = next_stage(come, len) - come;
         body.reserve_exact(due)?;
-        let most = due.min(room.len());
-        if !fill(line, &mut body, &mut room[..most])? {
+        if !fill_behind(line, &mut body, due.min(most))? {
             return Ok(BodyRead::Ended);
         }
+        most = next_read(body.len() - come);
     }
     Ok(BodyRead::Whole(body))
 }
@@ -182,6 +188,14 @@ fn next_stage(come: usize, len: usize) -> usize
     } else {
         len
     }
+}
+
+/// How many bytes the next read asks for at most, after one that gave so many.
+fn next_read(count: usize) -> usize
+    ensures some { 0 < result }
+    ensures most { result ≤ max_read }
+{
+    count.saturating_mul(2).max(FIRST_READ).min(MOST_READ)
 }
 
 /// Reads a body of so many bytes, which isn't wanted, and lets go of them as they come.

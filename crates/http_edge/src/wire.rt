@@ -96,6 +96,41 @@ pub(crate) fn fill<L: Line>(
     }
 }
 
+/// Reads once, up to so many bytes, straight to the end of the buffer, and says whether a byte came.
+pub(crate) fn fill_behind<L: Line>(
+    line: &mut L,
+    buffer: &mut Vec<u8>,
+    most: usize,
+) -> Result<bool, EdgeFault>
+    requires some { 0 < most }
+    requires most { most ≤ max_read }
+    ensures on_success { OnOk result ((read : List ℕ)
+        × Moves L.gives L.takes line.old line.new read []
+        × (buffer.new.items ≡ buffer.old.items ++ read)) }
+    ensures on_error { OnErr result ((read : List ℕ)
+        × Moves L.gives L.takes line.old line.new read []) }
+    ensures quiet { result ≡ Ok false → Moves L.gives L.takes line.old line.new [] [] }
+    ensures end { result ≡ Ok false → L.ends line.old < L.ends line.new }
+    ensures bound { OnOk result (length buffer.new.items ≤ length buffer.old.items + most) }
+    ensures reads { OnOk result (L.reads_left line.new < L.reads_left line.old) }
+    ensures ends { L.ends line.old ≤ L.ends line.new }
+    ensures kept { OnOk result (L.failed line.new ≡ L.failed line.old) }
+    ensures unfailed { result ≡ Err EdgeFault.OutOfMemory → L.failed line.new ≡ L.failed line.old }
+    ensures failed { result ≡ Err EdgeFault.ReadFailed
+        → HasFailed (L.failed line.old) (L.failed line.new) }
+    ensures no_write { result ≢ Err EdgeFault.WriteFailed }
+{
+    let come = buffer.len();
+    buffer.resize(come + most, 0)?;
+    match line.read_some(&mut buffer[come..]) {
+        Ok(count) => {
+            buffer.truncate(come + count);
+            Ok(count > 0)
+        }
+        Err(LineFailed) => Err(EdgeFault::ReadFailed),
+    }
+}
+
 /// When to look at the front of a buffer again, to which bytes are added: where a line has ended, where they are twice
 /// as many as at the last look, and where they are too many. So what is looked at anew stays in proportion to what
 /// comes.

@@ -6,6 +6,10 @@ ghost use Rattle.std.specs.List.{last_or};
 use std::alloc::{AllocError, Global};
 use std::marker::Model;
 
+/// A list that has a key has room for so many from then on, and where that is full, for as many more and two: common
+/// allocators give no smaller pieces of memory, and have no word of their own in these.
+const FIRST_ROOM: usize = 6;
+
 /// Keys of spans in order of arrival, which contracts see as a list.
 #[derive(Drop)]
 pub struct Keys {
@@ -34,7 +38,7 @@ impl Keys {
     pub fn one(alloc: Global, key: u32) -> Result<Self, AllocError>
         ensures { IfOk result (λ keys. keys ≡ key ∷ []) }
     {
-        let mut items = Vec::new(alloc);
+        let mut items = Vec::with_capacity(alloc, FIRST_ROOM)?;
         items.push(key)?;
         Ok(Keys { items })
     }
@@ -51,6 +55,10 @@ impl Keys {
         ensures on_success { OnOk result (self.new ≡ self.old ++ key ∷ []) }
         ensures on_refusal { OnErr result (self.new ≡ self.old) }
     {
+        let count = self.items.len();
+        if count == self.items.capacity() {
+            self.items.reserve_exact(count + 2)?;
+        }
         self.items.push(key)?;
         Ok(())
     }
