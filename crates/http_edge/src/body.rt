@@ -16,8 +16,9 @@ use std::alloc::{AllocError, Global};
 /// Room for so many bytes of a body is made before they come, so that a head alone takes no more.
 const FIRST_ROOM: usize = 1_048_576;
 
-/// The first read behind a head asks for so many bytes of the body at most, and each later one.
+/// So many bytes of a body the first read behind its head asks for, and any later one at most.
 const FIRST_READ: usize = 16_384;
+
 const MOST_READ: usize = 65_536;
 
 /// What came of a body. A whole one that wasn't wanted is empty.
@@ -105,8 +106,7 @@ pub(crate) fn read_body<L: Line>(
     }
 }
 
-/// Reads a body of so many bytes. What has come of it is copied, and the others are read to behind it, more at a time
-/// the more come, so that room which nothing was read to is neither touched nor filled for long.
+/// Reads a body of so many bytes. What has come of it is copied, and the others are read to behind it.
 fn read_sized<L: Line>(
     alloc: Global,
     line: &mut L,
@@ -190,12 +190,13 @@ fn next_stage(come: usize, len: usize) -> usize
     }
 }
 
-/// How many bytes the next read asks for at most, after one that gave so many.
+/// How many bytes the next read asks for, after one that gave so many. Room that is read to is filled before, so few
+/// are asked for where few come at a time.
 fn next_read(count: usize) -> usize
     ensures some { 0 < result }
     ensures most { result ≤ max_read }
 {
-    count.saturating_mul(2).max(FIRST_READ).min(MOST_READ)
+    count.saturating_mul(2).max(READ_AT_MOST).min(MOST_READ)
 }
 
 /// Reads a body of so many bytes, which isn't wanted, and lets go of them as they come.
