@@ -6,7 +6,8 @@ Each program is run by valgrind's callgrind under the load of measure.py: one te
 soon as it was answered, once for three seconds and once for nine. What the longer run took more, of all threads, less
 what those that rest take in that time, is divided by how many spans more were taken. So start and settings have no
 share, and since batches wait until they are full neither has how slow callgrind is. That is done for bodies of 1, 100
-and 1,000 spans. What else runs on the machine has no say; what the system does for a program isn't counted.
+and 1,000 spans. What else runs on the machine has no say; what the system does for a program isn't counted. The C
+library fills and moves memory without string instructions, of which callgrind counts one for each byte.
 
 It prints a table of Markdown; behind each program but the first, how many times the first one's instructions it takes.
 Ends with 1 where a span isn't taken, counted and sent.
@@ -22,7 +23,8 @@ from pathlib import Path
 import measure
 from measure import free_port, numbers, on, wait_for
 
-CALLGRIND = ("valgrind", "--tool=callgrind", "--callgrind-out-file=/dev/null")
+NO_STRINGS = "GLIBC_TUNABLES=" + ":".join(f"glibc.cpu.x86_rep_{kind}_threshold={1 << 40}" for kind in ("stosb", "movsb"))
+CALLGRIND = ("env", NO_STRINGS, "valgrind", "--tool=callgrind", "--callgrind-out-file=/dev/null")
 SIZES = (1, 100, 1000)
 # no batch goes before it is full
 PATIENT = "[tenant.batch]\ntimeout_ms = 600000\n"
