@@ -76,8 +76,8 @@ fn a_head_that_came_whole_is_one_read(rt: HostRuntime) -> Result<(), Fail> {
     Ok(())
 }
 
-/// The first read is of 4,096 bytes, of which 72 are the head's. The others go into one of 16,384, one of 32,768 and 16 of
-/// 65,536, and where they aren't wanted into 128 of 8,192.
+/// The first read is of 4,096 bytes, of which 72 are the head's. The others go into one of 16,384, one of 32,768 and 16
+/// of 65,536, and where they aren't wanted into 128 of 8,192.
 #[test]
 fn a_body_of_a_length_is_read_by_as_much_as_there_is_room_for(rt: HostRuntime) -> Result<(), Fail> {
     let message = Message {
