@@ -1,16 +1,24 @@
 -- Fields with tags of one byte, read without their numbers and lengths being gone through byte by byte.
-use Rattle.std.proofs.Common.{◌≡◌, ◌≤◌, ◌<◌, ◌∙◌, ◌+◌, ◌*◌, ◌/◌, ◌%◌, ◌&&◌, ◌==◌, ◌||◌, ℕ, Bool, true, false, List, [], ◌∷◌, ◌++◌, length, take, drop, refl, sym, ap, subst, arith, length-take, length-drop}
+use Rattle.std.proofs.Common.{◌≡◌, ◌≤◌, ◌<◌, ◌∙◌, ◌+◌, ◌*◌, ◌/◌, ◌%◌, ◌&&◌, ◌==◌, ◌||◌, ℕ, Bool, true, false, List, [], ◌∷◌, ◌++◌, length, take, drop, get_or, ◌-◌, refl, sym, ap, subst, arith, length-take, length-drop}
 use Rattle.std.specs.Prelude.{if◌then◌else◌, None}
 use Rattle.std.specs.Int.{w64, from_le_bytes}
-use Rattle.std.proofs.lemmas.List.{take-append-drop}
+use Rattle.std.proofs.lemmas.List.{take-append-drop, take_all}
 use Rattle.pb_wire.specs.declared.field.WireType.{WireType}
 use Rattle.pb_wire.specs.declared.field.WireType.TheVariants as types
 use Rattle.pb_wire.specs.Grammar.{Datum, Varint, Eight, Bytes, Four, Group, Entry, last_byte, more_bytes, IsVarint, code, IsTag, IsField, varint_field, eight_field, bytes_field, four_field}
 use Rattle.pb_wire.proofs.Again.{next_again}
 use Rattle.span_view.specs.Fields.{start, end, told_by, told_and, told}
 use Rattle.span_view.specs.Reading.{fields_from, fields_of, is_kind, held}
-use Rattle.span_view.specs.Short.{IsBehind, StartsWithBytes, StartsWithNumber, may_tell}
+use Rattle.span_view.specs.Short.{IsBehind, StartsWithBytes, StartsWithNumber, IsPast, none_passed, one_passed, may_tell}
 use Rattle.span_view.proofs.Walks.{fields_step}
+
+-- a text by its first two bytes and the rest
+pub two_first : (text : List ℕ) → 2 ≤ length text
+    → text ≡ get_or text 0 0 ∷ get_or text 1 0 ∷ take (length text - 2) (drop 2 text)
+two_first [] room = absurd (omega (arith, room))
+two_first (a ∷ []) room = absurd (omega (arith, room))
+two_first (a ∷ b ∷ rest) room =
+    ap (λ bs. a ∷ b ∷ bs) (sym (take_all (length (a ∷ b ∷ rest) - 2) rest (omega arith)))
 
 -- a number that has one byte
 one_byte : (b : ℕ) → b < 128 → IsVarint (b ∷ []) b
@@ -126,6 +134,12 @@ pub other_passed : (n other : ℕ) (kind : WireType) (text rest : List ℕ) → 
     → held n kind (fields_of text) ≡ held n kind (fields_of rest)
 other_passed n other kind text rest behind differs = other_held n other kind behind.value text rest behind.first differs
 
+-- nor is one that was passed over, if any was
+pub past_held : (n other : ℕ) (kind : WireType) (text rest : List ℕ) → IsPast other text rest → (other == n) ≡ false
+    → held n kind (fields_of text) ≡ held n kind (fields_of rest)
+past_held n other kind text rest none_passed differs = refl
+past_held n other kind text rest (one_passed behind) differs = other_passed n other kind text rest behind differs
+
 none_of : (a b c d : Bool) → (a || b || c || d) ≡ false → (a ≡ false) × (b ≡ false) × (c ≡ false) × (d ≡ false)
 none_of true b c d is = absurd (let clash : true ≡ false = is in cc)
 none_of false true c d is = absurd (let clash : true ≡ false = is in cc)
@@ -149,6 +163,11 @@ pub silent_passed : (n : ℕ) (text rest : List ℕ) → IsBehind n text rest �
     → told (fields_of text) ≡ told (fields_of rest)
 silent_passed n text rest behind is =
     ap told behind.first ∙ ap (λ fact. told_and fact (told (fields_of rest))) (silent n behind.value is)
+
+pub past_told : (n : ℕ) (text rest : List ℕ) → IsPast n text rest → may_tell n ≡ false
+    → told (fields_of text) ≡ told (fields_of rest)
+past_told n text rest none_passed is = refl
+past_told n text rest (one_passed behind) is = silent_passed n text rest behind is
 
 -- a time that stands first is told first
 pub start_told : (text rest : List ℕ) (time : ℕ) → StartsWithNumber 7 text time rest

@@ -22,6 +22,11 @@ pub record StartsWithNumber (number : ℕ) (text : List ℕ) (spelled : ℕ) (re
   pub first : fields_of text ≡ record { number = number; value = Eight spelling } ∷ fields_of rest
   pub spells : spelled ≡ from_le_bytes w64 spelling
 
+-- the rest is the whole text, or what stands behind a field of this number at its front
+pub data IsPast : ℕ → List ℕ → List ℕ → Type 0 where
+  none_passed : {number : ℕ} {text : List ℕ} → IsPast number text text
+  one_passed : {number : ℕ} {text rest : List ℕ} → IsBehind number text rest → IsPast number text rest
+
 -- a field of this number may tell something: a time, an attribute or the status
 abbrev pub may_tell : ℕ → Bool
 may_tell n = (n == 7) || (n == 8) || (n == 9) || (n == 15)

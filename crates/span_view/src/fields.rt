@@ -5,7 +5,8 @@ ghost use Rattle.pb_wire.specs.declared.field.WireType.{WireType};
 ghost use Rattle.pb_wire.specs.declared.field.WireType.TheVariants as types;
 ghost use Rattle.pb_wire.specs.Grammar.{datum, entry};
 ghost use Rattle.span_view.specs.Reading.{fields_of, found_fields, has, is_kind, held, found_held};
-ghost use Rattle.span_view.specs.Short.{IsBehind, StartsWithBytes, StartsWithNumber};
+ghost use Rattle.span_view.specs.Fields.{told};
+ghost use Rattle.span_view.specs.Short.{IsBehind, IsPast, StartsWithBytes, StartsWithNumber};
 ghost use Rattle.span_view.specs.Reading.{first_bytes, first_eight, first_varint};
 
 use pb_wire::{Field, Value, WireType, next_field};
@@ -76,24 +77,18 @@ pub fn short_field(text: &[u8]) -> Option<(u32, &[u8])>
     Some((number, rest.split_at(size).1))
 }
 
-/// What the first field holds and the text behind it, where its tag has one byte and it is at most 127 bytes. Of other
-/// fields it says nothing.
+/// What the first field holds and the text behind it, where it is at most 127 bytes. Of other fields it says nothing.
 #[inline(always)]
 pub fn short_bytes(text: &[u8], number: u32) -> Option<(&[u8], &[u8])>
+    requires some { 0 < number }
+    requires small { number < 16 }
     ensures { IfSome result (λ found. StartsWithBytes number text.now found.0.now found.1.now) }
 {
-    let Some((tag, held)) = text.split_first() else {
-        return None;
-    };
-    let tag = *tag;
-    if number == 0 || tag >= 0x80 || u64::from(tag) != u64::from(number) * 8 + 2 {
-        return None;
-    }
-    let Some((size, rest)) = held.split_first() else {
+    let [tag, size, rest @ ..] = text else {
         return None;
     };
     let size = usize::from(*size);
-    if size >= 0x80 || rest.len() < size {
+    if u32::from(*tag) != number * 8 + 2 || size >= 0x80 || rest.len() < size {
         return None;
     }
     Some(rest.split_at(size))
@@ -151,6 +146,8 @@ pub fn find(text: &[u8], number: u32, kind: WireType) -> Option<(Value<'_>, &[u8
 
 /// The bytes in the first field of bytes with this number, none where there is none, by a search.
 fn found_bytes(text: &[u8], number: u32) -> &[u8]
+    requires some { 0 < number }
+    requires small { number < 16 }
     ensures { result.now ≡ first_bytes (held number types.Bytes (fields_of text.now)) }
 {
     let front = past_others(text, number);
@@ -166,6 +163,8 @@ fn found_bytes(text: &[u8], number: u32) -> &[u8]
 /// The same, at once where the field stands first and is short.
 #[inline(always)]
 pub fn bytes(text: &[u8], number: u32) -> &[u8]
+    requires some { 0 < number }
+    requires small { number < 16 }
     ensures { result.now ≡ first_bytes (held number types.Bytes (fields_of text.now)) }
 {
     if let Some((bytes, _)) = short_bytes(text, number) {
@@ -196,24 +195,51 @@ pub fn varint(text: &[u8], number: u32) -> u64
     }
 }
 
-/// The text behind the fields at its front that are passed over at once, none of which has one of these numbers.
+/// The text behind the first field, where it has this number and holds at most 127 bytes, and else the whole text.
 #[inline(always)]
-fn past_others_than(text: &[u8], first: u32, second: u32, later: u32) -> &[u8]
-    ensures first { (kind : WireType) → held first kind (fields_of text.now) ≡ held first kind
-        (fields_of result.now) }
-    ensures second { (kind : WireType) → held second kind (fields_of text.now) ≡ held second kind
-        (fields_of result.now) }
-    ensures later { (kind : WireType) → held later kind (fields_of text.now) ≡ held later kind
-        (fields_of result.now) }
+fn past_short_bytes(text: &[u8], number: u32) -> &[u8]
+    requires some { 0 < number }
+    requires small { number < 16 }
+    ensures { IsPast number text.now result.now }
 {
-    let mut left = text;
-    'fields: while let Some((other, rest)) = short_field(left) {
-        if other == first || other == second || other == later {
-            return left;
-        }
-        left = rest;
+    match short_bytes(text, number) {
+        Some((_, rest)) => rest,
+        None => text,
     }
-    left
+}
+
+/// The text behind the first field, where it is a span's kind as a number of one byte, and else the whole text.
+#[inline(always)]
+fn past_kind(text: &[u8]) -> &[u8]
+    ensures { IsPast 6 text.now result.now }
+{
+    let [tag, kind, rest @ ..] = text else {
+        return text;
+    };
+    if *tag != 0x30 || *kind >= 0x80 {
+        return text;
+    }
+    rest
+}
+
+/// The text behind what stands before a span's times in canonical text: its ids, its state, its parent, its name and its
+/// kind. Where one of them is long the text begins with it.
+#[inline(always)]
+pub fn past_front(text: &[u8]) -> &[u8]
+    ensures start { (kind : WireType) → held 7 kind (fields_of text.now) ≡ held 7 kind
+        (fields_of result.now) }
+    ensures end { (kind : WireType) → held 8 kind (fields_of text.now) ≡ held 8 kind
+        (fields_of result.now) }
+    ensures status { (kind : WireType) → held 15 kind (fields_of text.now) ≡ held 15 kind
+        (fields_of result.now) }
+    ensures told { told (fields_of text.now) ≡ told (fields_of result.now) }
+{
+    let trace = past_short_bytes(text, 1);
+    let span = past_short_bytes(trace, 2);
+    let state = past_short_bytes(span, 3);
+    let parent = past_short_bytes(state, 4);
+    let name = past_short_bytes(parent, 5);
+    past_kind(name)
 }
 
 /// The number in the first field and the text behind it, where that field has this number, a tag of one byte and eight
@@ -235,29 +261,29 @@ pub fn leading_eight(text: &[u8], number: u32) -> Option<(u64, &[u8])>
     Some((u64::from_le_bytes(*spelling), rest))
 }
 
-/// The numbers in the first fields of eight bytes with these numbers, 0 where there is none, in one walk where the
-/// fields stand side by side; and a text in which fields of bytes with a third number stand as in the whole one: the
-/// text behind the two fields then, and the whole one else.
+/// A span's start and end, 0 where there is none, in one walk where they stand as in canonical text; and a text in
+/// which fields of the status' number stand as in the whole one: the text behind the times then, and the whole one else.
 #[inline(always)]
-pub fn two_eights(text: &[u8], first: u32, second: u32, later: u32) -> (u64, u64, &[u8])
-    requires { (first == second) ≡ false }
-    ensures first { result.0 ≡ first_eight (held first types.Eight (fields_of text.now)) }
-    ensures second { result.1 ≡ first_eight (held second types.Eight (fields_of text.now)) }
-    ensures later { held later types.Bytes (fields_of text.now) ≡ held later types.Bytes
+pub fn times(text: &[u8]) -> (u64, u64, &[u8])
+    ensures start { result.0 ≡ first_eight (held 7 types.Eight (fields_of text.now)) }
+    ensures end { result.1 ≡ first_eight (held 8 types.Eight (fields_of text.now)) }
+    ensures status { held 15 types.Bytes (fields_of text.now) ≡ held 15 types.Bytes
         (fields_of result.2.now) }
 {
-    let front = past_others_than(text, first, second, later);
-    if let Some((one, behind)) = leading_eight(front, first) {
-        if let Some((other, rest)) = leading_eight(behind, second) {
-            return (one, other, rest);
+    let front = past_front(text);
+    if let Some((start, behind)) = leading_eight(front, 7) {
+        if let Some((end, rest)) = leading_eight(behind, 8) {
+            return (start, end, rest);
         }
     }
-    (eight(text, first), eight(text, second), text)
+    (eight(text, 7), eight(text, 8), text)
 }
 
 /// The text behind the fields at its front that have this number and hold at most 127 bytes each.
 #[inline(always)]
 pub fn past_bytes(text: &[u8], number: u32) -> &[u8]
+    requires some { 0 < number }
+    requires small { number < 16 }
     ensures { (other : ℕ) → (number == other) ≡ false → held other types.Bytes (fields_of text.now)
         ≡ held other types.Bytes (fields_of result.now) }
 {

@@ -6,7 +6,7 @@ ghost use Rattle.span_view.specs.Fields.{first_start, first_end, first_status, a
 ghost use Rattle.span_view.specs.Reading.{facts_of};
 
 use crate::attributes::Attributes;
-use crate::fields::{bytes, eight, past_bytes, two_eights};
+use crate::fields::{bytes, eight, past_bytes, times};
 use crate::status::{code_behind, code_of};
 use crate::walk::SpanFields;
 use std::marker::Model;
@@ -70,23 +70,23 @@ impl<'a> SpanRef<'a> {
         eight(self.span, 8)
     }
 
-    /// Start and end, in nanoseconds since 1970, in one walk where they stand side by side.
+    /// Start and end, in nanoseconds since 1970, in one walk where they stand as in canonical text.
     pub fn times(&self) -> (u64, u64)
         ensures start { result.0 ≡ self.now.start_time_unix_nano }
         ensures end { result.1 ≡ self.now.end_time_unix_nano }
     {
-        let (start, end, _) = two_eights(self.span, 7, 8, 15);
+        let (start, end, _) = times(self.span);
         (start, end)
     }
 
-    /// Start, end and the code of the status, in one walk where the times stand side by side and the status behind
-    /// them, as they do in canonical text.
+    /// Start, end and the code of the status, in one walk where the times and the status stand as in canonical
+    /// text.
     pub fn times_and_status(&self) -> (u64, u64, i32)
         ensures start { result.0 ≡ self.now.start_time_unix_nano }
         ensures end { result.1 ≡ self.now.end_time_unix_nano }
         ensures status { result.2 ≡ self.now.status }
     {
-        let (start, end, rest) = two_eights(self.span, 7, 8, 15);
+        let (start, end, rest) = times(self.span);
         (start, end, code_behind(rest))
     }
 

@@ -8,7 +8,7 @@ ghost use Rattle.span_view.specs.Reading.{fields_of, facts_of};
 ghost use Rattle.span_view.specs.Short.{may_tell};
 
 use crate::attribute::AttributeRef;
-use crate::fields::{first_field, leading_eight, short_bytes, short_field};
+use crate::fields::{first_field, leading_eight, past_front, short_bytes, short_field};
 use crate::status::code_of;
 use crate::value::next_attribute;
 use pb_wire::{Field, Value};
@@ -143,7 +143,7 @@ impl<'a> SpanFields<'a> {
         requires text { AreText (facts_of span.now resource.now).attributes }
         ensures { result ≡ told_of span.now resource.now }
     {
-        SpanFields { span, resource }
+        SpanFields { span: past_front(span), resource }
     }
 }
 

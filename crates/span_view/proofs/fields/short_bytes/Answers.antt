@@ -1,17 +1,18 @@
-use Rattle.std.proofs.Common.{◌≡◌, ◌≤◌, ◌<◌, ◌%◌, ◌/◌, ◌+◌, ◌*◌, ◌∷◌, length, arith, rules}
-use Rattle.span_view.proofs.Short.{bytes_first}
+use Rattle.std.proofs.Common.{◌≡◌, ◌≤◌, ◌<◌, ◌%◌, ◌/◌, ◌+◌, ◌-◌, ◌*◌, ◌∷◌, length, take, drop, get_or, refl, arith}
+use Rattle.span_view.proofs.Short.{two_first, bytes_first}
 use Rattle.span_view.proofs.fields.short_bytes.Goals as goal
 
 pub returns : goal.returns
 returns c =
-    let tag = c.in-Some.tag.now in
-    let front : c.args.text.now ≡ c.in-Some.tag.now ∷ c.in-Some.held.now = search rules in
-    let is : c.in-Some.tag.now ≡ c.args.number * 8 + 2 = omega (arith, c.from.ensures, c.from-else-tag-ge128.ensures) in
-    let some : 8 ≤ c.in-Some.tag.now = omega (arith, is) in
-    let small : c.in-Some.tag.now < 128 = omega arith in
-    let kind : c.in-Some.tag.now % 8 ≡ 2 = omega (arith, is) in
-    let number : c.args.number ≡ c.in-Some.tag.now / 8 = omega (arith, is) in
-    let next : c.in-Some.held.now ≡ c.in-Some-split_first.size.now ∷ c.in-Some-split_first.rest.now = search rules in
-    let few : c.in-Some-split_first.size.now < 128 = omega (arith, c.from-size.ensures) in
-    let room : c.in-Some-split_first.size.now ≤ length c.in-Some-split_first.rest.now = omega (arith, c.from-size.ensures) in
-    rw (number, c.split_at.ensures.front, c.split_at.ensures.back, c.from-size.ensures) (bytes_first c.args.text.now c.in-Some.held.now tag front some small _ _ kind next few room)
+    let text = c.args.text.now in
+    let tag = get_or text 0 0 in
+    let size = get_or text 1 0 in
+    let rest = take (length text - 2) (drop 2 text) in
+    let is : tag ≡ c.args.number * 8 + 2 = omega (arith, c.from.ensures, c.if-from-number.false) in
+    let some : 8 ≤ tag = omega (arith, is, c.requires.some) in
+    let small : tag < 128 = omega (arith, is, c.requires.small) in
+    let kind : tag % 8 ≡ 2 = omega (arith, is) in
+    let number : c.args.number ≡ tag / 8 = omega (arith, is) in
+    let few : size < 128 = omega (arith, c.from-size.ensures, c.if-size-ge128.false) in
+    let room : size ≤ length rest = omega (arith, c.from-size.ensures, c.if-rest-size.false) in
+    rw (number, c.split_at.ensures.front, c.split_at.ensures.back, c.from-size.ensures) (bytes_first text (size ∷ rest) tag (two_first text c.in-len2-up.len_at_least) some small size rest kind refl few room)
