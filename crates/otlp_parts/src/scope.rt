@@ -28,6 +28,9 @@ use text_slice::TextSlice;
 /// The levels that a scope in a body has room for, its own among them.
 const SCOPE_ROOM: u32 = 98;
 
+/// No valid span has fewer bytes, since both its ids stand in it.
+const LEAST_SPAN: usize = 28;
+
 impl Embedded for InstrumentationScope {
     ghost Data = { ScopeData };
 
@@ -93,6 +96,13 @@ pub fn scope_parts(
     })
 }
 
+/// For how many spans to make room where the second one comes, which has so many bytes and so many behind it in its
+/// scope. The others are mostly as long; the room takes fewer bytes than theirs at any rate.
+fn room_for_all(size: usize, left: usize) -> usize {
+    let short = size - size / 8;
+    left / short.max(LEAST_SPAN) + 1
+}
+
 /// Takes one more span.
 fn add_span(
     alloc: Global,
@@ -112,8 +122,12 @@ fn add_span(
     match span_part(alloc, text, start, end, sliced)? {
         Some(span) => {
             // A list of one takes the room of one: what shares nothing may have a scope of its own.
-            if reading.spans.is_empty() {
-                reading.spans.reserve_exact(1)?;
+            match reading.spans.len() {
+                0 => reading.spans.reserve_exact(1)?,
+                1 => reading
+                    .spans
+                    .reserve_exact(room_for_all(end - start, text.len() - end))?,
+                _ => {}
             }
             reading.spans.push(span)?;
         }

@@ -46,9 +46,10 @@ fn trace_in(text: &[u8]) -> [u8; 16]
     requires size { length (facts_of text.now []).trace_id ≡ 16 }
     ensures { result ≡ (facts_of text.now []).trace_id }
 {
-    let mut trace = [0; 16];
-    trace.copy_from_slice(SpanRef::of(text, &[]).trace_id());
-    trace
+    match SpanRef::of(text, &[]).trace_id().as_array::<16>() {
+        Some(trace) => *trace,
+        None => unreachable!(),
+    }
 }
 
 impl UnnotedSpan {
