@@ -1,4 +1,4 @@
-use Rattle.std.proofs.Common.{◌≡◌, ◌≤◌, ◌<◌, ◌%◌, ◌/◌, ◌+◌, ◌*◌, ◌∷◌, ◌∙◌, length, drop, get_or, refl, ap, arith}
+use Rattle.std.proofs.Common.{◌≡◌, ◌≤◌, ◌<◌, ◌%◌, ◌/◌, ◌+◌, ◌*◌, ◌∷◌, length, get_or, refl, arith}
 use Rattle.span_view.proofs.Short.{two_first, bytes_first}
 use Rattle.span_view.proofs.fields.short_bytes.Goals as goal
 
