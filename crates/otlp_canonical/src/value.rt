@@ -1,7 +1,7 @@
 //! Attributes and their values, which hold others. A value goes to its member, an array or a list to each of its
 //! values.
 
-ghost use Rattle.std.specs.Prelude.{◌≡◌, ◌<◌, ℕ, IfSome};
+ghost use Rattle.std.specs.Prelude.{◌≡◌, ◌∷◌, ◌<◌, ◌*◌, ◌+◌, ℕ, IfSome};
 ghost use Rattle.std.specs.Str.{IsUtf8};
 ghost use Rattle.otlp_trace.specs.Text.{any_text, kind_text, array_text, list_text, key_value_text};
 ghost use Rattle.otlp_canonical.specs.Parts.{Whole, Front};
@@ -166,9 +166,53 @@ fn scalar_pair(key: &[u8], value: &[u8]) -> Option<()>
     if is_utf8(key) { Some(()) } else { None }
 }
 
-/// Goes over a key with a string, a bool or a number behind which nothing stands, which most attributes are. Where all
-/// of one with a string is ASCII, as tags and short lengths are, it is looked at once for all.
+/// The byte behind the tag of a field of this number and wire type `Bytes` at the front, and the rest. It is the
+/// field's length where it is below 128.
 #[inline(always)]
+fn short_front(text: &[u8], number: u8) -> Option<(usize, &[u8])>
+    requires fits { number < 16 }
+    ensures { IfSome result (λ x. text.now ≡ (8 * number + 2) ∷ x.0 ∷ x.1.now) }
+{
+    let (front, rest) = text.split_first_chunk::<2>()?;
+    if front[0] != number * 8 + 2 {
+        return None;
+    }
+    Some((usize::from(front[1]), rest))
+}
+
+/// Goes over a key with a string in ASCII, a bool or a number behind which nothing stands, where each length has one
+/// byte, which most attributes are. One with a string is looked at once for all: in ASCII such lengths are, too.
+#[inline(always)]
+fn short_pair(text: &[u8], room: u32) -> Option<()>
+    ensures { IfSome result (λ u. Whole key_value_text (SoundKeyValue room) text.now) }
+{
+    if room < 2 {
+        return None;
+    }
+    let (key_size, behind) = short_front(text, 1)?;
+    if key_size == 0 {
+        return None;
+    }
+    let (key, rest) = split(behind, key_size)?;
+    let (value_size, value) = short_front(rest, 2)?;
+    if value.len() != value_size {
+        return None;
+    }
+    let Some((string_size, string)) = short_front(value, 1) else {
+        if key_size >= 128 || value_size >= 128 {
+            return None;
+        }
+        return scalar_pair(key, value);
+    };
+    if string.len() != string_size {
+        return None;
+    }
+    if text.is_ascii() { Some(()) } else { None }
+}
+
+/// Goes over a key with a string, a bool or a number behind which nothing stands, whose lengths have any number of
+/// bytes.
+#[inline(never)]
 fn plain_pair(text: &[u8], room: u32) -> Option<()>
     ensures { IfSome result (λ u. Whole key_value_text (SoundKeyValue room) text.now) }
 {
@@ -189,17 +233,10 @@ fn plain_pair(text: &[u8], room: u32) -> Option<()>
     if !more.is_empty() {
         return None;
     }
-    if text.is_ascii() {
-        return Some(());
-    }
     if !is_utf8(key) {
         return None;
     }
-    if str::from_utf8(string).is_err() {
-        None
-    } else {
-        Some(())
-    }
+    if is_utf8(string) { Some(()) } else { None }
 }
 
 /// Goes over a key with or without a value.
@@ -221,12 +258,15 @@ fn any_pair(text: &[u8], room: u32) -> Option<()>
     Some(())
 }
 
-/// Goes over a key with or without a value. Most are plain, and take no call.
+/// Goes over a key with or without a value. Most are short, and take no call.
 #[cycle(any)]
 #[inline(always)]
 pub fn key_value(text: &[u8], room: u32) -> Option<()>
     ensures { IfSome result (λ u. Whole key_value_text (SoundKeyValue room) text.now) }
 {
+    if short_pair(text, room).is_some() {
+        return Some(());
+    }
     if plain_pair(text, room).is_some() {
         return Some(());
     }

@@ -1,19 +1,10 @@
 use Rattle.std.proofs.Common.{rules, arith, ◌≡◌, ◌<◌, ◌≤◌, ◌-◌, length}
-use Rattle.std.specs.Str.{IsAscii, IsUtf8}
-use Rattle.otlp_canonical.proofs.Pairs.{pair_from, pair_whole, ascii_pair}
+use Rattle.std.specs.Str.{IsUtf8}
+use Rattle.otlp_canonical.proofs.Pairs.{pair_from, pair_whole}
 use Rattle.otlp_canonical.proofs.value.plain_pair.Goals as goal
 
-pub returns-then-is_ascii : goal.returns-then-is_ascii
-returns-then-is_ascii c =
-    let deep : 2 ≤ c.args.room = omega arith in
-    let some : 0 < length c.in_ok-key.key.now = search rules in
-    let none : length c.in_ok-value.end.now ≡ 0 = search rules in
-    let no_more : length c.in-Some.more.now ≡ 0 = search rules in
-    let all : IsAscii c.args.text.now = search rules in
-    ascii_pair c.args.room _ _ _ _ _ _ _ deep c.in_ok-key.ensures.parts some c.in_ok-value.ensures.parts none c.in-Some.ensures.parts no_more all
-
-pub returns-else-is_err : goal.returns-else-is_err
-returns-else-is_err c =
+pub returns-then-is_utf8 : goal.returns-then-is_utf8
+returns-then-is_utf8 c =
     let deep : 2 ≤ c.args.room = omega arith in
     let some : 0 < length c.in_ok-key.key.now = search rules in
     let none : length c.in_ok-value.end.now ≡ 0 = search rules in
