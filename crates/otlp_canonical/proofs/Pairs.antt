@@ -26,12 +26,12 @@ ascii_back [] ys all = all
 ascii_back (x ∷ xs) ys all = ascii_back xs ys (λ i. all (suc i))
 
 -- what a field of ASCII holds, and what stands behind it
-pub field_ascii : (n : ℕ) (text bs rest : List ℕ) → text ≡ bytes_field n bs ++ rest → IsAscii text → IsAscii bs
+field_ascii : (n : ℕ) (text bs rest : List ℕ) → text ≡ bytes_field n bs ++ rest → IsAscii text → IsAscii bs
 field_ascii n text bs rest parts all =
     let whole : IsAscii (bytes_field n bs) = ascii_front (bytes_field n bs) rest (subst IsAscii parts all) in
     ascii_back (varint_text (length bs)) bs (ascii_back (tag_text n types.Bytes) (varint_text (length bs) ++ bs) whole)
 
-pub behind_ascii : (n : ℕ) (text bs rest : List ℕ) → text ≡ bytes_field n bs ++ rest → IsAscii text → IsAscii rest
+behind_ascii : (n : ℕ) (text bs rest : List ℕ) → text ≡ bytes_field n bs ++ rest → IsAscii text → IsAscii rest
 behind_ascii n text bs rest parts all = ascii_back (bytes_field n bs) rest (subst IsAscii parts all)
 
 -- a key, which isn't empty, with a value
@@ -50,7 +50,7 @@ pub pair_from : {A : Type 0} (o : Option A) (room : ℕ) (text key mid bs end : 
 pair_from None room text key mid bs end deep p some q none valid value = tt
 pair_from (Some x) room text key mid bs end deep p some q none valid value = pair_of room text key mid bs end deep p some q none valid value
 
-pub pair_whole : (room : ℕ) (text key mid bs end string more : List ℕ) → 2 ≤ room → text ≡ bytes_field 1 key ++ mid → 0 < length key
+pair_whole : (room : ℕ) (text key mid bs end string more : List ℕ) → 2 ≤ room → text ≡ bytes_field 1 key ++ mid → 0 < length key
     → mid ≡ bytes_field 2 bs ++ end → length end ≡ 0 → bs ≡ bytes_field 1 string ++ more → length more ≡ 0 → IsUtf8 key → IsUtf8 string
     → Whole key_value_text (SoundKeyValue room) text
 pair_whole room text key mid bs end string more deep p some q none r nothing_more valid text_valid =
@@ -59,7 +59,7 @@ pair_whole room text key mid bs end string more deep p some q none r nothing_mor
     (any_whole (room - 1) (room - 2) bs more inner (string_front (room - 2) bs string more r text_valid) (none_kept known_of_any (room - 2) more (nothing more nothing_more)))
 
 -- where all of it is ASCII
-pub ascii_pair : (room : ℕ) (text key mid bs end string more : List ℕ) → 2 ≤ room → text ≡ bytes_field 1 key ++ mid → 0 < length key
+ascii_pair : (room : ℕ) (text key mid bs end string more : List ℕ) → 2 ≤ room → text ≡ bytes_field 1 key ++ mid → 0 < length key
     → mid ≡ bytes_field 2 bs ++ end → length end ≡ 0 → bs ≡ bytes_field 1 string ++ more → length more ≡ 0 → IsAscii text
     → Whole key_value_text (SoundKeyValue room) text
 ascii_pair room text key mid bs end string more deep p some q none r nothing_more all =
@@ -72,8 +72,8 @@ ascii_pair room text key mid bs end string more deep p some q none r nothing_mor
 pub short_parts : (n size : ℕ) (text inside bs rest : List ℕ) → n < 15 → text ≡ (8 * n + 2) ∷ size ∷ inside → size < 128 → length bs ≡ size → inside ≡ bs ++ rest → text ≡ bytes_field n bs ++ rest
 short_parts n size text inside bs rest known p small long q =
     let count : size ∷ inside ≡ bytes_text bs ++ rest =
-        ap (λ (t : List ℕ). size ∷ t) q ∙ ap (λ (s : ℕ). s ∷ (bs ++ rest)) (sym long)
-        ∙ ap (λ (t : List ℕ). (t ++ bs) ++ rest) (sym (groups_one 9 (length bs) (omega (arith, small, long)))) in
+    ap (λ (t : List ℕ). size ∷ t) q ∙ ap (λ (s : ℕ). s ∷ (bs ++ rest)) (sym long)
+    ∙ ap (λ (t : List ℕ). (t ++ bs) ++ rest) (sym (groups_one 9 (length bs) (omega (arith, small, long)))) in
     tagged n types.Bytes (8 * n + 2) text (size ∷ inside) (bytes_text bs) rest (omega arith) (omega (arith, known)) p count
 
 -- the length behind a tag, and what stands behind both
