@@ -1,7 +1,7 @@
 //! Attributes and their values, which hold others. A value goes to its member, an array or a list to each of its
 //! values.
 
-ghost use Rattle.std.specs.Prelude.{◌≡◌, ◌<◌, ℕ, IfSome};
+ghost use Rattle.std.specs.Prelude.{◌≡◌, ◌∷◌, ◌<◌, ◌*◌, ◌+◌, ℕ, IfSome};
 ghost use Rattle.std.specs.Str.{IsUtf8};
 ghost use Rattle.otlp_trace.specs.Text.{any_text, kind_text, array_text, list_text, key_value_text};
 ghost use Rattle.otlp_canonical.specs.Parts.{Whole, Front};
@@ -138,14 +138,15 @@ fn list(text: &[u8], room: u32) -> Option<()>
     Some(())
 }
 
-/// What stands behind a bool or a number.
+/// What stands behind a string, a bool or a number.
 #[inline(always)]
-fn scalar(text: &[u8]) -> Option<&[u8]>
+fn plain(text: &[u8]) -> Option<&[u8]>
     ensures { (room : ℕ) → IfSome result
         (λ rest. Front kind_text (SoundKind room) text.now rest.now) }
 {
     let first = text.first()?;
     match *first {
+        0x0a => string(text),
         0x10 => boolean(text),
         0x18 => int(text),
         0x21 => double(text),
@@ -153,22 +154,65 @@ fn scalar(text: &[u8]) -> Option<&[u8]>
     }
 }
 
-/// Goes over a key whose value is a bool or a number behind which nothing stands, and over that value.
-fn scalar_pair(key: &[u8], value: &[u8]) -> Option<()>
+/// Goes over a key whose value is a string, a bool or a number behind which nothing stands, and over that value.
+fn plain_value(key: &[u8], value: &[u8]) -> Option<()>
     ensures key { IfSome result (λ u. IsUtf8 key.now) }
     ensures value { (room : ℕ) → 0 < room → IfSome result
         (λ u. Whole any_text (SoundAny room) value.now) }
 {
-    let rest = scalar(value)?;
+    let rest = plain(value)?;
     if !rest.is_empty() {
         return None;
     }
     if is_utf8(key) { Some(()) } else { None }
 }
 
-/// Goes over a key with a string, a bool or a number behind which nothing stands, which most attributes are. Where all
-/// of one with a string is ASCII, as tags and short lengths are, it is looked at once for all.
+/// The byte behind the tag of a field of this number and wire type `Bytes` at the front, and the rest. It is the
+/// field's length where it is below 128.
 #[inline(always)]
+fn short_front(text: &[u8], number: u8) -> Option<(usize, &[u8])>
+    requires fits { number < 16 }
+    ensures { IfSome result (λ x. text.now ≡ (8 * number + 2) ∷ x.0 ∷ x.1.now) }
+{
+    let (front, rest) = text.split_first_chunk::<2>()?;
+    if front[0] != number * 8 + 2 {
+        return None;
+    }
+    Some((usize::from(front[1]), rest))
+}
+
+/// Goes over a key with a string, a bool or a number behind which nothing stands, where each length has one byte, as
+/// most attributes are. One with a string in ASCII is looked at once for all: such lengths are ASCII, too.
+#[inline(always)]
+fn short_pair(text: &[u8], room: u32) -> Option<()>
+    ensures { IfSome result (λ u. Whole key_value_text (SoundKeyValue room) text.now) }
+{
+    if room < 2 {
+        return None;
+    }
+    let (key_size, behind) = short_front(text, 1)?;
+    if key_size == 0 {
+        return None;
+    }
+    let (key, rest) = split(behind, key_size)?;
+    let (value_size, value) = short_front(rest, 2)?;
+    if value.len() != value_size {
+        return None;
+    }
+    if let Some((string_size, string)) = short_front(value, 1) {
+        if string.len() == string_size && text.is_ascii() {
+            return Some(());
+        }
+    }
+    if key_size >= 128 || value_size >= 128 {
+        return None;
+    }
+    plain_value(key, value)
+}
+
+/// Goes over a key with a string, a bool or a number behind which nothing stands, whose lengths have any number of
+/// bytes.
+#[inline(never)]
 fn plain_pair(text: &[u8], room: u32) -> Option<()>
     ensures { IfSome result (λ u. Whole key_value_text (SoundKeyValue room) text.now) }
 {
@@ -183,23 +227,7 @@ fn plain_pair(text: &[u8], room: u32) -> Option<()>
     if !end.is_empty() {
         return None;
     }
-    let Some((string, more)) = bytes_field(value, 1) else {
-        return scalar_pair(key, value);
-    };
-    if !more.is_empty() {
-        return None;
-    }
-    if text.is_ascii() {
-        return Some(());
-    }
-    if !is_utf8(key) {
-        return None;
-    }
-    if str::from_utf8(string).is_err() {
-        None
-    } else {
-        Some(())
-    }
+    plain_value(key, value)
 }
 
 /// Goes over a key with or without a value.
@@ -221,12 +249,15 @@ fn any_pair(text: &[u8], room: u32) -> Option<()>
     Some(())
 }
 
-/// Goes over a key with or without a value. Most are plain, and take no call.
+/// Goes over a key with or without a value. Most are short, and take no call.
 #[cycle(any)]
 #[inline(always)]
 pub fn key_value(text: &[u8], room: u32) -> Option<()>
     ensures { IfSome result (λ u. Whole key_value_text (SoundKeyValue room) text.now) }
 {
+    if short_pair(text, room).is_some() {
+        return Some(());
+    }
     if plain_pair(text, room).is_some() {
         return Some(());
     }

@@ -282,6 +282,56 @@ fn short_and_long_keys_are_told_alike(rt: HostRuntime) -> Result<(), Fail> {
     Ok(())
 }
 
+/// What stands before a start of 5 and an end of 6: what does so in canonical text, and other fields and orders.
+const FRONTS: [&[u8]; 9] = [
+    b"\x0a\x01\x01\x12\x01\x02\x1a\x01s\x22\x01\x03\x2a\x01n\x30\x02",
+    b"\x0a\x00\x12\x00\x2a\x00\x30\x00",
+    b"\x0a\x01\x01\x30\x7f",
+    // A kind of two bytes, and one that holds bytes.
+    b"\x0a\x01\x01\x30\x80\x01",
+    b"\x0a\x01\x01\x32\x01\x39",
+    // Two trace ids, a name before them, and a number of one byte in a name's place.
+    b"\x0a\x01\x01\x0a\x01\x02",
+    b"\x2a\x01n\x0a\x01\x01",
+    b"\x0a\x01\x01\x28\x39",
+    // The flags.
+    b"\x85\x01\x01\x00\x00\x00",
+];
+
+/// Whether a view has these times and an error, by calls for some of them, and field by field.
+fn has_times_and_error(view: &SpanRef<'_>, start: u64, end: u64) -> bool {
+    let mut fields = view.fields();
+    let first = matches!(fields.next(), Some(SpanField::Start(time)) if time == start);
+    let second = matches!(fields.next(), Some(SpanField::End(time)) if time == end);
+    let third = matches!(fields.next(), Some(SpanField::Status(2)));
+    view.times_and_status() == (start, end, 2) && first && second && third
+}
+
+#[test]
+fn what_stands_before_the_times_is_passed_over(rt: HostRuntime) -> Result<(), Fail> {
+    let rest =
+        b"\x39\x05\x00\x00\x00\x00\x00\x00\x00\x41\x06\x00\x00\x00\x00\x00\x00\x00\x7a\x02\x18\x02";
+    for front in FRONTS {
+        let mut span = Vec::new(rt.alloc());
+        span.extend_from_slice(front)?;
+        span.extend_from_slice(rest)?;
+        let view = checked(&rt, &span, b"");
+        let size = front.len();
+        assert!(rt; has_times(&rt, &span, 5, 6), "behind {size}");
+        assert!(rt; has_times_and_error(&view, 5, 6), "behind {size}");
+    }
+    // Names of 127 and of 128 bytes, and one that is cut short, behind which no field begins.
+    for (name, count) in [(b"\x2a\x7f".as_slice(), 127), (b"\x2a\x80\x01", 128)] {
+        let span = keyed(rt.alloc(), name, count)?;
+        let view = checked(&rt, &span, b"");
+        assert!(rt; has_times_and_error(&view, 5, 6), "at {count}");
+    }
+    let cut = keyed(rt.alloc(), b"\x2a\x7f", 0)?;
+    assert!(rt; has_times(&rt, &cut, 0, 0));
+    assert!(rt; checked(&rt, &cut, b"").fields().next().is_none());
+    Ok(())
+}
+
 #[test]
 fn strings_that_are_not_utf8_are_found(rt: HostRuntime) {
     let none: &[u8] = b"";

@@ -1,8 +1,8 @@
 -- Fields with tags of one byte, read without their numbers and lengths being gone through byte by byte.
-use Rattle.std.proofs.Common.{◌≡◌, ◌≤◌, ◌<◌, ◌∙◌, ◌+◌, ◌*◌, ◌/◌, ◌%◌, ◌&&◌, ◌==◌, ◌||◌, ℕ, Bool, true, false, List, [], ◌∷◌, ◌++◌, length, take, drop, get_or, ◌-◌, refl, sym, ap, subst, arith, length-take, length-drop}
+use Rattle.std.proofs.Common.{◌≡◌, ◌≤◌, ◌<◌, ◌∙◌, ◌+◌, ◌*◌, ◌/◌, ◌%◌, ◌&&◌, ◌==◌, ◌||◌, ℕ, Bool, true, false, List, [], ◌∷◌, ◌++◌, length, take, drop, get_or, refl, sym, ap, subst, arith, length-take, length-drop}
 use Rattle.std.specs.Prelude.{if◌then◌else◌, None}
 use Rattle.std.specs.Int.{w64, from_le_bytes}
-use Rattle.std.proofs.lemmas.List.{take-append-drop, take_all}
+use Rattle.std.proofs.lemmas.List.{take-append-drop}
 use Rattle.pb_wire.specs.declared.field.WireType.{WireType}
 use Rattle.pb_wire.specs.declared.field.WireType.TheVariants as types
 use Rattle.pb_wire.specs.Grammar.{Datum, Varint, Eight, Bytes, Four, Group, Entry, last_byte, more_bytes, IsVarint, code, IsTag, IsField, varint_field, eight_field, bytes_field, four_field}
@@ -13,12 +13,10 @@ use Rattle.span_view.specs.Short.{IsBehind, StartsWithBytes, StartsWithNumber, I
 use Rattle.span_view.proofs.Walks.{fields_step}
 
 -- a text by its first two bytes and the rest
-pub two_first : (text : List ℕ) → 2 ≤ length text
-    → text ≡ get_or text 0 0 ∷ get_or text 1 0 ∷ take (length text - 2) (drop 2 text)
+pub two_first : (text : List ℕ) → 2 ≤ length text → text ≡ get_or text 0 0 ∷ get_or text 1 0 ∷ drop 2 text
 two_first [] room = absurd (omega (arith, room))
 two_first (a ∷ []) room = absurd (omega (arith, room))
-two_first (a ∷ b ∷ rest) room =
-    ap (λ bs. a ∷ b ∷ bs) (sym (take_all (length (a ∷ b ∷ rest) - 2) rest (omega arith)))
+two_first (a ∷ b ∷ rest) room = refl
 
 -- a number that has one byte
 one_byte : (b : ℕ) → b < 128 → IsVarint (b ∷ []) b

@@ -84,11 +84,19 @@ pub fn short_bytes(text: &[u8], number: u32) -> Option<(&[u8], &[u8])>
     requires small { number < 16 }
     ensures { IfSome result (λ found. StartsWithBytes number text.now found.0.now found.1.now) }
 {
-    let [tag, size, rest @ ..] = text else {
+    let [tag, size, ..] = text else {
         return None;
     };
+    // Each condition stands by itself, so that what isn't needed to tell fields apart by their tags isn't worked out.
+    if u32::from(*tag) != number * 8 + 2 {
+        return None;
+    }
+    if *size >= 0x80 {
+        return None;
+    }
     let size = usize::from(*size);
-    if u32::from(*tag) != number * 8 + 2 || size >= 0x80 || rest.len() < size {
+    let (_, rest) = text.split_at(2);
+    if rest.len() < size {
         return None;
     }
     Some(rest.split_at(size))
@@ -213,17 +221,17 @@ fn past_short_bytes(text: &[u8], number: u32) -> &[u8]
 fn past_kind(text: &[u8]) -> &[u8]
     ensures { IsPast 6 text.now result.now }
 {
-    let [tag, kind, rest @ ..] = text else {
+    let [tag, kind, ..] = text else {
         return text;
     };
     if *tag != 0x30 || *kind >= 0x80 {
         return text;
     }
-    rest
+    text.split_at(2).1
 }
 
-/// The text behind what stands before a span's times in canonical text: its ids, its state, its parent, its name and its
-/// kind. Where one of them is long the text begins with it.
+/// The text behind what stands before a span's times in canonical text: its ids, its state, its parent, its name and
+/// its kind. Where one of them is long the text begins with it.
 #[inline(always)]
 pub fn past_front(text: &[u8]) -> &[u8]
     ensures start { (kind : WireType) → held 7 kind (fields_of text.now) ≡ held 7 kind
@@ -262,7 +270,8 @@ pub fn leading_eight(text: &[u8], number: u32) -> Option<(u64, &[u8])>
 }
 
 /// A span's start and end, 0 where there is none, in one walk where they stand as in canonical text; and a text in
-/// which fields of the status' number stand as in the whole one: the text behind the times then, and the whole one else.
+/// which fields of the status' number stand as in the whole one: the text behind the times then, and else the whole
+/// one.
 #[inline(always)]
 pub fn times(text: &[u8]) -> (u64, u64, &[u8])
     ensures start { result.0 ≡ first_eight (held 7 types.Eight (fields_of text.now)) }

@@ -143,7 +143,10 @@ impl<'a> SpanFields<'a> {
         requires text { AreText (facts_of span.now resource.now).attributes }
         ensures { result ≡ told_of span.now resource.now }
     {
-        SpanFields { span: past_front(span), resource }
+        SpanFields {
+            span: past_front(span),
+            resource,
+        }
     }
 }
 

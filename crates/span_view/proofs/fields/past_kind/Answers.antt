@@ -1,4 +1,4 @@
-use Rattle.std.proofs.Common.{◌≡◌, ◌∙◌, ◌<◌, ◌-◌, ◌∷◌, length, take, drop, get_or, refl, ap, arith}
+use Rattle.std.proofs.Common.{◌≡◌, ◌∙◌, ◌∷◌, drop, get_or, refl, ap, arith}
 use Rattle.span_view.specs.Short.{none_passed, one_passed}
 use Rattle.span_view.proofs.Short.{two_first, number_first}
 use Rattle.span_view.proofs.fields.past_kind.Goals as goal
@@ -13,7 +13,7 @@ pub returns : goal.returns
 returns c =
     let text = c.args.text.now in
     let kind = get_or text 1 0 in
-    let rest = take (length text - 2) (drop 2 text) in
-    let is : get_or text 0 0 ≡ 48 = c.if-tag-ne48.false in
-    let front : text ≡ 48 ∷ kind ∷ rest = two_first text c.in-len2-up.len_at_least ∙ ap (λ tag. tag ∷ kind ∷ rest) is in
-    one_passed (number_first text (kind ∷ rest) 48 front (omega arith) (omega arith) kind rest refl refl c.if-kind-ge128.false)
+    let rest = drop 2 text in
+    let front : text ≡ 48 ∷ kind ∷ rest =
+    two_first text c.in-len2-up.len_at_least ∙ ap (λ tag. tag ∷ kind ∷ rest) c.if-tag-ne48.false in
+    rw c.split_at.ensures.back (one_passed (number_first text (kind ∷ rest) 48 front (omega arith) (omega arith) kind rest refl refl c.if-kind-ge128.false))

@@ -1,4 +1,4 @@
-use Rattle.std.proofs.Common.{◌≡◌, ◌∙◌, ◌++◌, ap, sym, subst, map}
+use Rattle.std.proofs.Common.{◌≡◌, ◌++◌, ap, sym, subst, map}
 use Rattle.span_view.specs.Facts.{AreText}
 use Rattle.span_view.specs.Fields.{told_of, attribute, attributes_told}
 use Rattle.span_view.specs.Reading.{attributes_in}
