@@ -55,6 +55,17 @@ span 98 4a0a12082a060a000a021001\n\
 span 98 4a0d120b32090a000a050a016b1200\n\
 span 98 4a0412023a00\n\
 span 98 4a0512033a01ff\n\
+# A key with a number. With a string: both in ASCII, and one of them not. Field 100, behind the value and in it.\n\
+span 98 4a070a016b12021805\n\
+span 98 4a080a016b12030a0176\n\
+span 98 4a090a016b12040a02c3a9\n\
+span 98 4a090a02c3a912030a0176\n\
+span 98 4a0b0a016b12030a0176a00601\n\
+span 98 4a0b0a016b12060a0176a00601\n\
+# With a string of 128 bytes.\n\
+span 98 4a89010a016b1283010a800176767676767676767676767676767676767676767676767676767676767676767676767676767676\
+7676767676767676767676767676767676767676767676767676767676767676767676767676767676767676767676767676767676767676\
+7676767676767676767676767676767676767676767676767676767676767676\n\
 # Field 100, in the value, in an array, in a list and in one of its keys.\n\
 span 98 4a051203a00601\n\
 span 98 4a0712050a00a00601\n\
@@ -129,6 +140,11 @@ span 98 4a0d120b18ffffffffffffffffff02\n\
 # A string that isn't UTF-8, and a double that is cut.\n\
 span 98 4a0512030a01ff\n\
 span 98 4a0a12082100000000000000\n\
+# A key and a string, one of which isn't UTF-8. A string that is cut, and a key whose length is longer than need be.\n\
+span 98 4a080a016b12030a01ff\n\
+span 98 4a080a01ff12030a0176\n\
+span 98 4a080a016b12030a0276\n\
+span 98 4a090a81006b12030a0176\n\
 # Two members, the same member twice, and a member behind what isn't known.\n\
 span 98 4a0612040a001001\n\
 span 98 4a06120418011801\n\
