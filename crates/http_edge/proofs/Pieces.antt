@@ -383,3 +383,8 @@ never_chunked {most} {stream} p more b left h =
 pub ended_by : (more : Bool) → not more ≡ true → more ≡ false
 ended_by true e = absurd (let f : false ≡ true = e in cc)
 ended_by false e = refl
+
+-- a byte came
+pub goes_by : (more : Bool) → not more ≡ false → more ≡ true
+goes_by true e = refl
+goes_by false e = absurd (let f : true ≡ false = e in cc)

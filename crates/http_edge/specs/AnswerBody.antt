@@ -1,6 +1,6 @@
 -- How far the body of an answer has come. How a body's end is found is RFC 9112's, section 6.3; how much of it is kept
 -- is this project's own rule.
-use Rattle.std.specs.Prelude.{◌≡◌, ℕ, ◌≢◌, ◌≤◌, ◌⊎◌, nat_lt, Bool, true, drop, Option, Some, None, List, [], ◌++◌, length}
+use Rattle.std.specs.Prelude.{◌≡◌, ℕ, ◌≢◌, ◌≤◌, ◌⊎◌, ⊤, nat_lt, Bool, true, drop, Option, Some, None, List, [], ◌++◌, length}
 use Rattle.http1.specs.declared.framing.Framing.{Framing}
 use Rattle.http1.specs.declared.conn.Limits.{Limits}
 use Rattle.http1.specs.declared.decode.Decoder.{Decoder}
@@ -104,6 +104,12 @@ abbrev pub IsAnswerHeadProgress : List ℕ → AnswerHeadProgress → Type 0
 IsAnswerHeadProgress bytes (Begin.Whole head) = (h : ResponseHead) × IsAnswerHead bytes head h
 IsAnswerHeadProgress bytes Begin.More = HasNoResponse bytes
 IsAnswerHeadProgress bytes Begin.Bad = RefusesAnswerHead bytes
+
+-- this holds where an answer's head is whole
+abbrev pub IfAnswerHead : AnswerHeadProgress → Type 0 → Type 0
+IfAnswerHead (Begin.Whole head) fact = fact
+IfAnswerHead Begin.More fact = ⊤
+IfAnswerHead Begin.Bad fact = ⊤
 
 -- what the bytes read have after the interim heads: a head at the front of the buffer, or why no answer comes
 abbrev pub IsFinal : List ℕ → Bool → List ℕ → Option AnswerHead → Type 0

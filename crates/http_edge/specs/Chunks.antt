@@ -1,8 +1,9 @@
 -- Bodies in chunks (RFC 9112, section 7.1): lines with sizes and data, and a trailer. Lines and trailers are those of
 -- httparse's grammar, of which so much is taken.
-use Rattle.std.specs.Prelude.{◌≡◌, ℕ, ◌+◌, ◌<◌, ◌≤◌, ◌⊎◌, ◌==◌, Bool, List, [], ◌∷◌, ◌++◌, length, take, drop, count_by}
+use Rattle.std.specs.Prelude.{◌≡◌, ℕ, ◌+◌, ◌<◌, ◌≤◌, ◌⊎◌, ◌==◌, not, Bool, List, [], ◌∷◌, ◌++◌, length, take, drop, count_by}
 use Rattle.std.specs.List.{concat, list_any}
 use Rattle.httparse.specs.Ascii.{line_feed, carriage_return, crlf_bytes}
+use Rattle.httparse.specs.Pieces.{is_newline}
 use Rattle.httparse.specs.Grammar.{ChunkLine, print_chunk_line, chunk_size, ReadsChunkLine, HasNoChunkLine, NeverHasChunkLine, MayBecomeChunkLine, Field, LineEnd, print_section, ReadsSection, HasNoSection, NeverHasSection, MayBecomeSection}
 use Rattle.httparse.specs.Spans.{SectionExceeds, SectionOverflows}
 use Rattle.http_edge.specs.Limits.{max_fields, max_part}
@@ -32,6 +33,10 @@ line_ends stream = count_by (λ b. b == line_feed) stream
 -- a line has ended
 abbrev pub has_line_end : List ℕ → Bool
 has_line_end stream = list_any (λ b. b == line_feed) stream
+
+-- a byte came that isn't of a line's end
+abbrev pub has_text : List ℕ → Bool
+has_text stream = list_any (λ b. not (is_newline b)) stream
 
 -- the stream begins with a trailer: fields and an empty line
 pub record HasTrailer (stream after : List ℕ) : Type 0 where

@@ -1,5 +1,5 @@
 -- The bytes of a reply: a status line, fields and a body (RFC 9112, section 4).
-use Rattle.std.specs.Prelude.{ℕ, Bool, true, false, ◌==◌, ◌&&◌, List, [], ◌∷◌, ◌++◌, length, if◌then◌else◌, codes, decimal}
+use Rattle.std.specs.Prelude.{ℕ, Bool, true, ◌==◌, ◌&&◌, List, [], ◌∷◌, ◌++◌, length, if◌then◌else◌, codes, decimal}
 use Rattle.httparse.specs.Ascii.{crlf_bytes}
 use Rattle.http_edge.specs.Message.{Response}
 use Rattle.http_edge.specs.declared.message.Allow.{Allow}

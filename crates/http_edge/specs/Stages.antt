@@ -19,12 +19,13 @@ use Rattle.http_edge.specs.declared.body.ChunkedBody.{ChunkedBody}
 use Rattle.http_edge.specs.declared.body.Pieces.{Pieces}
 use Rattle.http_edge.specs.declared.body.Pieces.TheVariants as Piece
 use Rattle.http_edge.specs.declared.wire.EdgeFault.{EdgeFault}
+use Rattle.http_edge.specs.declared.wire.Watch.{Watch}
 use Rattle.http_edge.specs.declared.wire.EdgeFault.TheVariants.{OutOfMemory}
 use Rattle.http_edge.specs.declared.chunks.ChunkedState.{ChunkedState as PartCode}
 use Rattle.http_edge.specs.declared.chunks.ChunkedState.TheVariants.{Line, Bytes, Trailer}
 use Rattle.http_edge.specs.declared.chunks.Piece.{Piece as PieceCode}
 use Rattle.http_edge.specs.declared.chunks.Piece.TheVariants as Found
-use Rattle.http_edge.specs.Chunks.{line_part, bytes_part, trailer_part, Reaches, FailsAt, LacksAt, HasChunkedBody, StopsAt}
+use Rattle.http_edge.specs.Chunks.{line_part, bytes_part, trailer_part, has_text, Reaches, FailsAt, LacksAt, HasChunkedBody, StopsAt}
 use Rattle.http_edge.specs.Message.{Request, Response, Message, Frame, sized, chunked, headers_of, framing_of, max_fields, max_body, HasHead, HasBody, IsTooLong, IsBroken, LacksBody, HasMessage, request_of, expects, closes, is_bodiless}
 use Rattle.http_edge.specs.Talk.{RefusesHead, head_lines, Exchange, exchange_text, Ends, Due, Lacks, Talks}
 use Rattle.http_edge.specs.Reply.{reply_text, is_for_no_memory}
@@ -82,6 +83,20 @@ IsHeadProgress bytes TooMany = HasNoRequest bytes × MayBecomeRequest bytes × (
 IsHeadProgress bytes (Refuse status bodiless) = RefusesHead bytes bodiless status
 IsHeadProgress bytes (Progress.OutOfMemory bodiless) =
     (h : RequestHead) × (after : List ℕ) × HasHead bytes h after × (bodiless ≡ is_bodiless h)
+
+-- this holds where a head is whole
+abbrev pub IfHead : HeadProgress → Type 0 → Type 0
+IfHead (Whole head) fact = fact
+IfHead More fact = ⊤
+IfHead TooMany fact = ⊤
+IfHead (Refuse status bodiless) fact = ⊤
+IfHead (Progress.OutOfMemory bodiless) fact = ⊤
+
+-- The bytes that were searched hold none of what is looked for, and only line ends where nothing has begun.
+pub record IsWatched (HasNone : List ℕ → Type 0) (bytes : List ℕ) (watch : Watch) : Type 0 where
+  pub within : watch.seen ≤ length bytes
+  pub none : HasNone (take watch.seen bytes)
+  pub blank : watch.is_begun ≡ false → has_text (take watch.seen bytes) ≡ false
 
 -- what is kept of a body: all of it where it is wanted, and nothing where it isn't
 abbrev pub kept_if : Bool → List ℕ → List ℕ
@@ -161,6 +176,13 @@ IsRead wanted frame stream after (Read.Whole kept) = (body : List ℕ) × HasBod
 IsRead wanted frame stream after Read.TooLong = (frame ≡ chunked) × IsTooLong chunked stream
 IsRead wanted frame stream after Read.Bad = (frame ≡ chunked) × IsBroken stream
 IsRead wanted frame stream after Read.Ended = LacksBody frame stream
+
+-- this holds where a body is whole
+abbrev pub IfWhole : BodyRead → Type 0 → Type 0
+IfWhole (Read.Whole kept) fact = fact
+IfWhole Read.TooLong fact = ⊤
+IfWhole Read.Bad fact = ⊤
+IfWhole Read.Ended fact = ⊤
 
 -- the handler's answer and what is written of it
 pub record Replies (form : RefusalForm) {H : Type 0} (answers : H → Request → Response → H

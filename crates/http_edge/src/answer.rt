@@ -1,5 +1,5 @@
 //! Answers of a back end.
-ghost use Rattle.std.specs.Prelude.{◌≡◌, ◌≢◌, ℕ, ◌/◌, ◌≤◌, ◌==◌, ◌&&◌, nat_lt, not, List, [], length, IfOk, OnOk, OnErr, Err};
+ghost use Rattle.std.specs.Prelude.{◌≡◌, ◌≢◌, ℕ, ◌+◌, ◌/◌, ◌≤◌, ◌==◌, ◌&&◌, nat_lt, not, List, [], length, IfOk, IfSome, OnOk, OnErr, Err};
 ghost use Rattle.send_retry.specs.Class.{answer_view};
 ghost use Rattle.http_line.specs.Line.{Moves};
 ghost use Rattle.http_edge.specs.Steps.{HasFailed};
@@ -16,6 +16,7 @@ use std::alloc::Global;
 const MOST_INTERIMS: usize = 16;
 
 /// Reads the answer to a post. `Answer::Failed` is no whole answer: a bad head, framing or body, or an end too early.
+/// Nothing is read behind the end of the input.
 pub fn read_answer<L: Line>(alloc: Global, line: &mut L) -> Result<Answer, EdgeFault>
     // The answer is what the bytes read tell.
     ensures on_success { IfOk result (λ answer. (read : List ℕ)
@@ -23,6 +24,8 @@ pub fn read_answer<L: Line>(alloc: Global, line: &mut L) -> Result<Answer, EdgeF
         × Tells read (nat_lt (L.ends line.old) (L.ends line.new)) (answer_view answer)) }
     ensures on_error { OnErr result ((read : List ℕ)
         × Moves L.gives L.takes line.old line.new read []) }
+    // One read at most gave no byte: nothing is read behind it.
+    ensures stops { L.ends line.new ≤ L.ends line.old + 1 }
     ensures failed { result ≡ Err EdgeFault.ReadFailed
         → HasFailed (L.failed line.old) (L.failed line.new) }
     ensures no_write { result ≢ Err EdgeFault.WriteFailed }
@@ -48,9 +51,11 @@ fn read_final_head<L: Line>(
     ensures on_success { IfOk result (λ found. (read : List ℕ)
         × Moves L.gives L.takes line.old line.new read []
         × IsFinal read (nat_lt (L.ends line.old) (L.ends line.new)) buffer.new.items found) }
+    ensures whole { IfOk result (λ found. IfSome found (λ _. L.ends line.new ≡ L.ends line.old)) }
     ensures on_error { OnErr result ((read : List ℕ)
         × Moves L.gives L.takes line.old line.new read []) }
     ensures ends { L.ends line.old ≤ L.ends line.new }
+    ensures stops { L.ends line.new ≤ L.ends line.old + 1 }
     ensures kept { OnOk result (L.failed line.new ≡ L.failed line.old) }
     ensures failed { result ≡ Err EdgeFault.ReadFailed
         → HasFailed (L.failed line.old) (L.failed line.new) }
@@ -96,6 +101,7 @@ fn read_after<L: Line>(
     ensures on_error { OnErr result ((read : List ℕ)
         × Moves L.gives L.takes line.old line.new read []) }
     ensures ends { L.ends line.old ≤ L.ends line.new }
+    ensures stops { L.ends line.new ≤ L.ends line.old + 1 }
     ensures failed { result ≡ Err EdgeFault.ReadFailed
         → HasFailed (L.failed line.old) (L.failed line.new) }
     ensures no_write { result ≢ Err EdgeFault.WriteFailed }

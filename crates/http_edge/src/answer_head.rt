@@ -1,11 +1,14 @@
 //! The head of an answer.
-ghost use Rattle.std.specs.Prelude.{◌≡◌, ◌≢◌, ℕ, ◌<◌, ◌≤◌, List, [], ◌++◌, length, map, All, IfOk, OnOk, OnErr, Ok, Err};
+ghost use Rattle.std.specs.Prelude.{◌≡◌, ◌≢◌, ℕ, ◌+◌, ◌<◌, ◌≤◌, List, [], ◌++◌, length, map, All, IfOk, OnOk, OnErr, Ok, Err, false};
 ghost use Rattle.httparse.specs.Spans.{IsResponseOf, IsResponseWithin, IsHeaderWithin, header_bytes};
+ghost use Rattle.httparse.specs.Grammar.{HasNoResponse};
+ghost use Rattle.http_edge.specs.Chunks.{has_text};
+ghost use Rattle.http_edge.specs.Stages.{IsWatched};
 ghost use Rattle.http_edge.specs.Message.{max_head};
 ghost use Rattle.http_line.specs.Line.{Moves};
 ghost use Rattle.http_edge.specs.Steps.{work, HasFailed};
 ghost use Rattle.http_edge.specs.Post.{is_bodiless_status, answer_framing_in, retry_after_in, seconds_of};
-ghost use Rattle.http_edge.specs.AnswerBody.{IsAnswerHeadProgress};
+ghost use Rattle.http_edge.specs.AnswerBody.{IsAnswerHeadProgress, IfAnswerHead};
 
 use crate::fields::{field, framing_in, number};
 use crate::limits::{MAX_FIELDS, MAX_HEAD};
@@ -46,10 +49,12 @@ pub(crate) fn read_answer_head<L: Line>(
         × Moves L.gives L.takes line.old line.new read []
         × (buffer.new.items ≡ buffer.old.items ++ read)
         × IsAnswerHeadProgress buffer.new.items begin) }
+    ensures whole { IfOk result (λ begin. IfAnswerHead begin (L.ends line.new ≡ L.ends line.old)) }
     ensures end { result ≡ Ok AnswerHeadProgress.More → L.ends line.old < L.ends line.new }
     ensures on_error { OnErr result ((read : List ℕ)
         × Moves L.gives L.takes line.old line.new read []) }
     ensures ends { L.ends line.old ≤ L.ends line.new }
+    ensures stops { L.ends line.new ≤ L.ends line.old + 1 }
     ensures kept { OnOk result (L.failed line.new ≡ L.failed line.old) }
     ensures failed { result ≡ Err EdgeFault.ReadFailed
         → HasFailed (L.failed line.old) (L.failed line.new) }
@@ -57,15 +62,28 @@ pub(crate) fn read_answer_head<L: Line>(
 {
     let mut watch = Watch::before_head();
     'looks: loop {
-        if watch.is_due(buffer, false) {
-            match answer_head_at(buffer) {
-                AnswerHeadProgress::More => {}
-                begin => return Ok(begin),
-            }
+        match answer_head_due(buffer, &mut watch) {
+            AnswerHeadProgress::More => {}
+            begin => return Ok(begin),
         }
         if !fill(line, buffer, room)? {
-            return Ok(answer_head_at(buffer));
+            return Ok(AnswerHeadProgress::More);
         }
+    }
+}
+
+/// What the bytes begin with. Before it is time to look they are less than a head: no line has ended since the last
+/// look.
+fn answer_head_due(bytes: &[u8], watch: &mut Watch) -> AnswerHeadProgress
+    requires { IsWatched HasNoResponse bytes.now watch.old }
+    ensures begin { IsAnswerHeadProgress bytes.now result }
+    ensures seen { watch.new.seen ≡ length bytes.now }
+    ensures blank { watch.new.is_begun ≡ false → has_text bytes.now ≡ false }
+{
+    if watch.is_due(bytes, false) {
+        answer_head_at(bytes)
+    } else {
+        AnswerHeadProgress::More
     }
 }
 

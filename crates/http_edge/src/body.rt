@@ -4,7 +4,7 @@ ghost use Rattle.http_edge.specs.Message.{sized, chunked, max_body};
 ghost use Rattle.http_edge.specs.Limits.{first_room, max_read};
 ghost use Rattle.http_line.specs.Line.{Moves};
 ghost use Rattle.http_edge.specs.Steps.{work, HasFailed};
-ghost use Rattle.http_edge.specs.Stages.{frame_by, bytes_due, Gathers, IsAt, IsPieces, IsRead};
+ghost use Rattle.http_edge.specs.Stages.{frame_by, bytes_due, Gathers, IsAt, IsPieces, IsRead, IfWhole};
 
 use crate::chunks::{ChunkedState, Piece, bytes_due, next_piece};
 use crate::head::BodyKind;
@@ -81,12 +81,14 @@ pub(crate) fn read_body<L: Line>(
         × Moves L.gives L.takes line.old line.new read []
         × IsRead wanted (frame_by kind) (drop from buffer.old.items ++ read) buffer.new.items
         found) }
+    ensures whole { IfOk result (λ found. IfWhole found (L.ends line.new ≡ L.ends line.old)) }
     ensures on_error { OnErr result ((read : List ℕ)
         × Moves L.gives L.takes line.old line.new read []) }
     ensures end { result ≡ Ok BodyRead.Ended → L.ends line.old < L.ends line.new }
     ensures work { OnOk result (work (L.reads_left line.new) buffer.new.items + from ≤ work
         (L.reads_left line.old) buffer.old.items) }
     ensures ends { L.ends line.old ≤ L.ends line.new }
+    ensures stops { L.ends line.new ≤ L.ends line.old + 1 }
     ensures kept { OnOk result (L.failed line.new ≡ L.failed line.old) }
     ensures unfailed { result ≡ Err EdgeFault.OutOfMemory → L.failed line.new ≡ L.failed line.old }
     ensures failed { result ≡ Err EdgeFault.ReadFailed
@@ -119,12 +121,14 @@ fn read_sized<L: Line>(
     ensures on_success { IfOk result (λ found. (read : List ℕ)
         × Moves L.gives L.takes line.old line.new read []
         × IsRead true (sized len) (drop from buffer.old.items ++ read) buffer.new.items found) }
+    ensures whole { IfOk result (λ found. IfWhole found (L.ends line.new ≡ L.ends line.old)) }
     ensures on_error { OnErr result ((read : List ℕ)
         × Moves L.gives L.takes line.old line.new read []) }
     ensures end { result ≡ Ok BodyRead.Ended → L.ends line.old < L.ends line.new }
     ensures work { OnOk result (work (L.reads_left line.new) buffer.new.items + from ≤ work
         (L.reads_left line.old) buffer.old.items) }
     ensures ends { L.ends line.old ≤ L.ends line.new }
+    ensures stops { L.ends line.new ≤ L.ends line.old + 1 }
     ensures kept { OnOk result (L.failed line.new ≡ L.failed line.old) }
     ensures unfailed { result ≡ Err EdgeFault.OutOfMemory → L.failed line.new ≡ L.failed line.old }
     ensures failed { result ≡ Err EdgeFault.ReadFailed
@@ -213,12 +217,14 @@ fn skip_sized<L: Line>(
     ensures on_success { IfOk result (λ found. (read : List ℕ)
         × Moves L.gives L.takes line.old line.new read []
         × IsRead false (sized len) (drop from buffer.old.items ++ read) buffer.new.items found) }
+    ensures whole { IfOk result (λ found. IfWhole found (L.ends line.new ≡ L.ends line.old)) }
     ensures on_error { OnErr result ((read : List ℕ)
         × Moves L.gives L.takes line.old line.new read []) }
     ensures end { result ≡ Ok BodyRead.Ended → L.ends line.old < L.ends line.new }
     ensures work { OnOk result (work (L.reads_left line.new) buffer.new.items + from ≤ work
         (L.reads_left line.old) buffer.old.items) }
     ensures ends { L.ends line.old ≤ L.ends line.new }
+    ensures stops { L.ends line.new ≤ L.ends line.old + 1 }
     ensures kept { OnOk result (L.failed line.new ≡ L.failed line.old) }
     ensures unfailed { result ≡ Err EdgeFault.OutOfMemory → L.failed line.new ≡ L.failed line.old }
     ensures failed { result ≡ Err EdgeFault.ReadFailed
@@ -250,12 +256,14 @@ fn read_chunks<L: Line>(
     ensures on_success { IfOk result (λ found. (read : List ℕ)
         × Moves L.gives L.takes line.old line.new read []
         × IsRead wanted chunked (buffer.old.items ++ read) buffer.new.items found) }
+    ensures whole { IfOk result (λ found. IfWhole found (L.ends line.new ≡ L.ends line.old)) }
     ensures on_error { OnErr result ((read : List ℕ)
         × Moves L.gives L.takes line.old line.new read []) }
     ensures end { result ≡ Ok BodyRead.Ended → L.ends line.old < L.ends line.new }
     ensures work { OnOk result (work (L.reads_left line.new) buffer.new.items ≤ work
         (L.reads_left line.old) buffer.old.items) }
     ensures ends { L.ends line.old ≤ L.ends line.new }
+    ensures stops { L.ends line.new ≤ L.ends line.old + 1 }
     ensures kept { OnOk result (L.failed line.new ≡ L.failed line.old) }
     ensures unfailed { result ≡ Err EdgeFault.OutOfMemory → L.failed line.new ≡ L.failed line.old }
     ensures failed { result ≡ Err EdgeFault.ReadFailed

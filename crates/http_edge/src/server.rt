@@ -4,11 +4,12 @@ ghost use Rattle.httparse.specs.Grammar.{RequestHead, HasNoRequest};
 ghost use Rattle.http_edge.specs.Talk.{Converses, Begins, head_lines};
 ghost use Rattle.http_edge.specs.Reply.{refusal_text, reply_text, continue_text, is_for_no_memory};
 ghost use Rattle.http_edge.specs.Message.{Message, Settles, closes, max_fields, max_head, with_body};
+ghost use Rattle.http_edge.specs.Chunks.{has_text};
 ghost use Rattle.http_edge.specs.Limits.{part_room};
 ghost use Rattle.http_line.specs.Line.{Moves};
 ghost use Rattle.http_edge.specs.Steps.{work, HasFailed};
 ghost use Rattle.http_edge.specs.Seen.{seen, response_of};
-ghost use Rattle.http_edge.specs.Stages.{IsHeadProgress, IsMessageOf, kept_if, StaysOpen, IsOver, IsCut, RepliesWhole, RepliesInPart, RepliesUnwritten, BreaksOff, StopsShort};
+ghost use Rattle.http_edge.specs.Stages.{IsHeadProgress, IfHead, IsWatched, IsMessageOf, kept_if, StaysOpen, IsOver, IsCut, RepliesWhole, RepliesInPart, RepliesUnwritten, BreaksOff, StopsShort};
 ghost use Rattle.http_edge.specs.declared.wire.EdgeFault.TheVariants.{OutOfMemory};
 
 use crate::body::{BodyRead, read_body};
@@ -34,7 +35,7 @@ pub fn connection_buffer(alloc: Global) -> Result<Vec<u8>, AllocError>
 /// Reads messages and writes the handler's replies, until the connection is to close, a message is bad, or the input
 /// ends. What the buffer has from the connection before is let go. Where memory is refused, the client is told so by a
 /// 503 from constant bytes, once all that was taken for its message is given back, and the connection is to close. That
-/// reply has no body where the head was read and its method is HEAD.
+/// reply has no body where the head was read and its method is HEAD. Nothing is read behind the end of the input.
 pub fn serve<T: Threads + Sync, L: Line, H: Handler>(
     rt: &T,
     alloc: Global,
@@ -49,6 +50,8 @@ pub fn serve<T: Threads + Sync, L: Line, H: Handler>(
     ensures fault { IfErr result (λ fault. (read : List ℕ) × (written : List ℕ)
         × Moves L.gives L.takes line.old line.new read written
         × Begins H.refusals fault H.answers handler.old read handler.new written) }
+    // One read at most gave no byte: nothing is read behind it.
+    ensures stops { L.ends line.new ≤ L.ends line.old + 1 }
     ensures read { result ≡ Err EdgeFault.ReadFailed
         → HasFailed (L.failed line.old) (L.failed line.new) }
     ensures write { result ≡ Err EdgeFault.WriteFailed
@@ -85,6 +88,7 @@ fn converse<T: Threads + Sync, L: Line, H: Handler>(
         line.old line.new) }
     ensures short { result ≡ Err OutOfMemory → StopsShort H.refusals bodiless.new H.answers
         handler.old handler.new L.gives L.takes line.old line.new }
+    ensures stops { L.ends line.new ≤ L.ends line.old + 1 }
     ensures unfailed { result ≡ Err EdgeFault.OutOfMemory → L.failed line.new ≡ L.failed line.old }
     ensures read { result ≡ Err EdgeFault.ReadFailed
         → HasFailed (L.failed line.old) (L.failed line.new) }
@@ -110,6 +114,7 @@ fn exchange<T: Threads + Sync, L: Line, H: Handler>(
     ensures stays_open { result ≡ Ok true → StaysOpen H.refusals H.answers handler.old
         handler.new L.gives L.takes line.old line.new buffer.old.items
         buffer.new.items }
+    ensures goes_on { result ≡ Ok true → L.ends line.new ≡ L.ends line.old }
     ensures closes { result ≡ Ok false → IsOver H.refusals H.answers handler.old
         handler.new L.gives L.takes line.old line.new (L.ends line.old < L.ends
         line.new) buffer.old.items }
@@ -118,6 +123,7 @@ fn exchange<T: Threads + Sync, L: Line, H: Handler>(
     ensures work { result ≡ Ok true → work (L.reads_left line.new) buffer.new.items < work
         (L.reads_left line.old) buffer.old.items }
     ensures ends { L.ends line.old ≤ L.ends line.new }
+    ensures stops { L.ends line.new ≤ L.ends line.old + 1 }
     ensures kept { OnOk result (L.failed line.new ≡ L.failed line.old) }
     ensures unfailed { result ≡ Err EdgeFault.OutOfMemory → L.failed line.new ≡ L.failed line.old }
     ensures read { result ≡ Err EdgeFault.ReadFailed
@@ -165,6 +171,7 @@ fn read_head<L: Line>(
         × Moves L.gives L.takes line.old line.new read []
         × (buffer.new.items ≡ buffer.old.items ++ read)
         × IsHeadProgress buffer.new.items begin) }
+    ensures whole { IfOk result (λ begin. IfHead begin (L.ends line.new ≡ L.ends line.old)) }
     ensures end { result ≡ Ok HeadProgress.More → L.ends line.old < L.ends line.new }
     ensures short { result ≡ Ok HeadProgress.More → length buffer.new.items < max_head }
     ensures lines_bounded { result ≡ Ok HeadProgress.More
@@ -177,6 +184,7 @@ fn read_head<L: Line>(
     ensures work { OnOk result (work (L.reads_left line.new) buffer.new.items ≤ work
         (L.reads_left line.old) buffer.old.items) }
     ensures ends { L.ends line.old ≤ L.ends line.new }
+    ensures stops { L.ends line.new ≤ L.ends line.old + 1 }
     ensures kept { OnOk result (L.failed line.new ≡ L.failed line.old) }
     ensures unfailed { result ≡ Err EdgeFault.OutOfMemory → L.failed line.new ≡ L.failed line.old }
     ensures failed { result ≡ Err EdgeFault.ReadFailed
@@ -185,8 +193,9 @@ fn read_head<L: Line>(
 {
     let mut watch = Watch::before_head();
     'looks: loop {
-        if let Some(begin) = look(alloc, line, room, buffer, &mut watch)? {
-            return Ok(begin);
+        match look(alloc, line, room, buffer, &mut watch)? {
+            Some(begin) => return Ok(begin),
+            None => {}
         }
     }
 }
@@ -200,10 +209,15 @@ fn look<L: Line>(
     buffer: &mut Vec<u8>,
     watch: &mut Watch,
 ) -> Result<Option<HeadProgress>, EdgeFault>
+    requires { IsWatched HasNoRequest buffer.old.items watch.old }
     ensures on_success { OnOk result ((read : List ℕ)
         × Moves L.gives L.takes line.old line.new read []
         × (buffer.new.items ≡ buffer.old.items ++ read)) }
     ensures found { IfOk result (λ found. IfSome found (IsHeadProgress buffer.new.items)) }
+    ensures whole { IfOk result (λ found. IfSome found (λ begin. IfHead begin (L.ends line.new
+        ≡ L.ends line.old))) }
+    ensures watched { result ≡ Ok None → IsWatched HasNoRequest buffer.new.items watch.new }
+    ensures more { result ≡ Ok None → L.ends line.new ≡ L.ends line.old }
     ensures end { result ≡ Ok (Some HeadProgress.More) → L.ends line.old < L.ends line.new }
     ensures short { result ≡ Ok (Some HeadProgress.More) → length buffer.new.items < max_head }
     ensures lines_bounded { result ≡ Ok (Some HeadProgress.More)
@@ -217,16 +231,16 @@ fn look<L: Line>(
     ensures less { result ≡ Ok None → work (L.reads_left line.new) buffer.new.items < work
         (L.reads_left line.old) buffer.old.items }
     ensures ends { L.ends line.old ≤ L.ends line.new }
+    ensures stops { L.ends line.new ≤ L.ends line.old + 1 }
     ensures kept { OnOk result (L.failed line.new ≡ L.failed line.old) }
     ensures unfailed { result ≡ Err EdgeFault.OutOfMemory → L.failed line.new ≡ L.failed line.old }
     ensures failed { result ≡ Err EdgeFault.ReadFailed
         → HasFailed (L.failed line.old) (L.failed line.new) }
     ensures no_write { result ≢ Err EdgeFault.WriteFailed }
 {
-    if watch.is_due(buffer, false) {
-        if let Some(begin) = head_there(alloc, buffer) {
-            return Ok(Some(begin));
-        }
+    match head_due(alloc, buffer, watch) {
+        Some(begin) => return Ok(Some(begin)),
+        None => {}
     }
     match buffer.reserve(READ_AT_MOST) {
         Ok(()) => {}
@@ -239,6 +253,23 @@ fn look<L: Line>(
         return Ok(None);
     }
     Ok(Some(head_at(alloc, buffer)))
+}
+
+/// What the bytes begin with, where it is time to look and they aren't less than a head. Before it is time they are: no
+/// line has ended since the last look.
+fn head_due(alloc: Global, bytes: &[u8], watch: &mut Watch) -> Option<HeadProgress>
+    requires { IsWatched HasNoRequest bytes.now watch.old }
+    ensures found { IfSome result (IsHeadProgress bytes.now) }
+    ensures whole { result ≢ Some HeadProgress.More }
+    ensures none { result ≡ None → HasNoRequest bytes.now }
+    ensures seen { watch.new.seen ≡ length bytes.now }
+    ensures blank { watch.new.is_begun ≡ false → has_text bytes.now ≡ false }
+{
+    if watch.is_due(bytes, false) {
+        head_there(alloc, bytes)
+    } else {
+        None
+    }
 }
 
 /// What the bytes begin with, where they aren't less than a head.
@@ -298,6 +329,7 @@ fn serve_message<T: Threads + Sync, L: Line, H: Handler>(
     ensures stays_open { result ≡ Ok true → StaysOpen H.refusals H.answers handler.old
         handler.new L.gives L.takes line.old line.new buffer.old.items
         buffer.new.items }
+    ensures goes_on { result ≡ Ok true → L.ends line.new ≡ L.ends line.old }
     ensures closes { result ≡ Ok false → IsOver H.refusals H.answers handler.old
         handler.new L.gives L.takes line.old line.new (L.ends line.old < L.ends
         line.new) buffer.old.items }
@@ -306,6 +338,7 @@ fn serve_message<T: Threads + Sync, L: Line, H: Handler>(
     ensures work { result ≡ Ok true → work (L.reads_left line.new) buffer.new.items < work
         (L.reads_left line.old) buffer.old.items }
     ensures ends { L.ends line.old ≤ L.ends line.new }
+    ensures stops { L.ends line.new ≤ L.ends line.old + 1 }
     ensures kept { OnOk result (L.failed line.new ≡ L.failed line.old) }
     ensures unfailed { result ≡ Err EdgeFault.OutOfMemory → L.failed line.new ≡ L.failed line.old }
     ensures read { result ≡ Err EdgeFault.ReadFailed

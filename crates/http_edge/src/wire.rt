@@ -1,7 +1,7 @@
 //! Reading into a buffer, and writing.
 ghost use Rattle.std.specs.Prelude.{◌≡◌, ◌≢◌, ℕ, ◌+◌, ◌-◌, ◌/◌, ◌<◌, ◌≤◌, List, [], ◌++◌, length, drop, IfOk, OnOk, OnErr, IsTrue, true, false, Ok, Err, vec_len, vec_capacity};
 ghost use Rattle.httparse.specs.Pieces.{is_newline};
-ghost use Rattle.http_edge.specs.Chunks.{has_line_end};
+ghost use Rattle.http_edge.specs.Chunks.{has_line_end, has_text};
 ghost use Rattle.http_edge.specs.Limits.{max_part, max_read};
 ghost use Rattle.http_line.specs.Line.{Moves};
 ghost use Rattle.http_edge.specs.Steps.{work, HasFailed};
@@ -72,6 +72,7 @@ pub(crate) fn fill<L: Line>(
         × Moves L.gives L.takes line.old line.new read []) }
     ensures end { IfOk result (λ more. more ≡ false → (buffer.new.items ≡ buffer.old.items)
         × (L.ends line.old < L.ends line.new)) }
+    ensures more { result ≡ Ok true → L.ends line.new ≡ L.ends line.old }
     ensures quiet { result ≡ Ok false → Moves L.gives L.takes line.old line.new [] [] }
     ensures bound { OnOk result (length buffer.new.items ≤ length buffer.old.items + length
         room.old) }
@@ -79,6 +80,7 @@ pub(crate) fn fill<L: Line>(
     ensures work { OnOk result (work (L.reads_left line.new) buffer.new.items < work
         (L.reads_left line.old) buffer.old.items) }
     ensures ends { L.ends line.old ≤ L.ends line.new }
+    ensures stops { L.ends line.new ≤ L.ends line.old + 1 }
     ensures kept { OnOk result (L.failed line.new ≡ L.failed line.old) }
     ensures unfailed { result ≡ Err EdgeFault.OutOfMemory → L.failed line.new ≡ L.failed line.old }
     ensures roomy { vec_len buffer.old + length room.old ≤ vec_capacity buffer.old
@@ -109,11 +111,13 @@ pub(crate) fn fill_behind<L: Line>(
         × (buffer.new.items ≡ buffer.old.items ++ read)) }
     ensures on_error { OnErr result ((read : List ℕ)
         × Moves L.gives L.takes line.old line.new read []) }
+    ensures more { result ≡ Ok true → L.ends line.new ≡ L.ends line.old }
     ensures quiet { result ≡ Ok false → Moves L.gives L.takes line.old line.new [] [] }
     ensures end { result ≡ Ok false → L.ends line.old < L.ends line.new }
     ensures bound { OnOk result (length buffer.new.items ≤ length buffer.old.items + most) }
     ensures reads { OnOk result (L.reads_left line.new < L.reads_left line.old) }
     ensures ends { L.ends line.old ≤ L.ends line.new }
+    ensures stops { L.ends line.new ≤ L.ends line.old + 1 }
     ensures kept { OnOk result (L.failed line.new ≡ L.failed line.old) }
     ensures unfailed { result ≡ Err EdgeFault.OutOfMemory → L.failed line.new ≡ L.failed line.old }
     ensures failed { result ≡ Err EdgeFault.ReadFailed
@@ -179,13 +183,15 @@ impl Watch {
         ensures seen { self.new.seen ≡ length bytes.now }
         ensures looked { result ≡ true → self.new.looked ≡ length bytes.now }
         ensures kept { result ≡ false → self.new.looked ≡ self.old.looked }
-        ensures line { self.old.is_begun ≡ true → self.old.seen ≤ length bytes.now
+        ensures line { self.new.is_begun ≡ true → self.old.seen ≤ length bytes.now
             → has_line_end (drop self.old.seen bytes.now) ≡ true → result ≡ true }
+        ensures blank { self.new.is_begun ≡ false → self.old.seen ≤ length bytes.now
+            → has_text (drop self.old.seen bytes.now) ≡ false }
         ensures begun { self.old.is_begun ≡ true → self.new.is_begun ≡ true }
     {
         let fresh = &bytes[self.seen.min(bytes.len())..];
         self.seen = bytes.len();
-        self.is_begun |= fresh.iter().any(|b| !is_line_end(*b));
+        self.is_begun |= has_text(fresh);
         let is_line = self.is_begun && fresh.contains(&b'\n');
         let is_due = ended || is_line || bytes.len() >= MAX_PART || bytes.len() / 2 >= self.looked;
         if is_due {
@@ -203,6 +209,13 @@ impl Watch {
         self.seen = self.seen.saturating_sub(count);
         self.looked = self.looked.saturating_sub(count);
     }
+}
+
+/// Whether a byte came that isn't of a line's end.
+fn has_text(bytes: &[u8]) -> bool
+    ensures { result ≡ has_text bytes.now }
+{
+    bytes.iter().any(|b| !is_line_end(*b))
 }
 
 /// Whether the byte is one that ends a line.

@@ -33,3 +33,13 @@ returns-in_err-answer-in-Some-clause-on_error g c =
     let p = err_from_is_err_and c.from_residual-in_err-answer-in-Some.result
     c.from_residual-in_err-answer-in-Some.ensures.1 in
     rw p.1 (f.0 ++ e.0, then f.1 e.1)
+
+pub returns-clause-stops : goal.returns-clause-stops
+returns-clause-stops g c =
+    let same = rw c.in-Some.is at c.in_ok-read_final_head.ensures.whole in
+    omega (arith, c.in_ok-answer-in-Some.ensures.stops, same)
+
+pub returns-in_err-answer-in-Some-clause-stops : goal.returns-in_err-answer-in-Some-clause-stops
+returns-in_err-answer-in-Some-clause-stops g c =
+    let same = rw c.in-Some.is at c.in_ok-read_final_head.ensures.whole in
+    omega (arith, c.in_err-answer-in-Some.ensures.stops, same)

@@ -100,7 +100,7 @@ heads-preserved g c =
       so_far = (then inv.so_far.0 e.1, rw c.drop_front.ensures more);
       few = omega (arith, inv.few);
       kept = c.in_ok-read_answer_head.ensures.kept ∙ inv.kept;
-      ends = omega (arith, c.in_ok-read_answer_head.ensures.ends, inv.ends);
+      ends = (rw c.in-Whole.is at c.in_ok-read_answer_head.ensures.whole) ∙ inv.ends;
     }
 
 pub heads-init : goal.heads-init
@@ -109,5 +109,9 @@ heads-init g c = record {
   so_far = (no_call, sym c.requires);
   few = search rules;
   kept = refl;
-  ends = search rules;
+  ends = refl;
 }
+
+pub returns-then-not-is_interim-clause-whole : goal.returns-then-not-is_interim-clause-whole
+returns-then-not-is_interim-clause-whole g c =
+    (rw c.in-Whole.is at c.in_ok-read_answer_head.ensures.whole) ∙ c.heads.invariant.ends

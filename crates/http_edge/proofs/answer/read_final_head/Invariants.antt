@@ -16,7 +16,7 @@ invariant-heads g l = Heads
     × SkipsInterims l.interims read l.buffer.items)
     (l.interims ≤ 16)
     (g.L.Line.failed l.line ≡ g.L.Line.failed l.fn.line)
-    (g.L.Line.ends l.fn.line ≤ g.L.Line.ends l.line)
+    (g.L.Line.ends l.line ≡ g.L.Line.ends l.fn.line)
 
 abbrev pub decreases-heads : goal.decreases-heads
 decreases-heads g l = 16 - l.interims

@@ -1,7 +1,7 @@
-use Rattle.std.proofs.Common.{◌++◌, inr, ◌∙◌, append_assoc, arith, [], refl, rules}
+use Rattle.std.proofs.Common.{◌++◌, Ok, ap, inr, ◌∙◌, append_assoc, arith, [], refl, rules}
 use Rattle.std.proofs.lemmas.Result.{err_from_is_err_and}
 use Rattle.http_line.proofs.Moved.{then}
-use Rattle.http_edge.proofs.Pieces.{at_more, ended_by}
+use Rattle.http_edge.proofs.Pieces.{at_more, ended_by, goes_by}
 use Rattle.http_line.specs.Line.{no_call}
 use Rattle.http_edge.proofs.answer_body.read_answer_chunks.Goals as goal
 
@@ -43,6 +43,8 @@ reads-preserved g c =
       ends = omega (arith, c.in_ok-more.ensures.ends, inv.ends);
       met = λ f.
           let met = c.in_ok-more.ensures.end (ended_by c.in_ok-more.more f) in omega (arith, met.1, inv.ends);
+      going = λ f. c.in_ok-more.ensures.more (ap Ok (goes_by c.in_ok-more.more f)) ∙ inv.going c.if-ended.false;
+      stops = omega (arith, c.in_ok-more.ensures.stops, inv.going c.if-ended.false);
     }
 
 pub reads-init : goal.reads-init
@@ -53,4 +55,6 @@ reads-init g c = record {
   kept = refl;
   ends = search rules;
   met = search rules;
+  going = λ _. refl;
+  stops = search rules;
 }

@@ -1,17 +1,19 @@
-use Rattle.std.proofs.Common.{◌≡◌, ◌<◌, ◌≤◌, true, List, ℕ, [], ◌++◌}
+use Rattle.std.proofs.Common.{◌≡◌, ◌<◌, ◌≤◌, ◌+◌, true, false, List, ℕ, [], ◌++◌}
 use Rattle.http_line.specs.Line.{Moves}
 use Rattle.http_edge.specs.Steps.{work}
 use Rattle.http_edge.specs.Stages.{IsAt}
 use Rattle.http_edge.specs.AnswerBody.{Keeps}
 use Rattle.http_edge.proofs.answer_body.read_answer_chunks.Given as goal
 
-pub record Reads (P : List ℕ → List ℕ → Type 0) (Q S E : Type 0) : Type 0 where
+pub record Reads (P : List ℕ → List ℕ → Type 0) (Q S E O U : Type 0) : Type 0 where
   pub read : List ℕ
   pub body : List ℕ
   pub so_far : P read body
   pub kept : Q
   pub ends : S
   pub met : E
+  pub going : O
+  pub stops : U
 
 abbrev pub invariant-reads : goal.invariant-reads
 invariant-reads g l = Reads
@@ -20,6 +22,8 @@ invariant-reads g l = Reads
     (g.L.Line.failed l.line ≡ g.L.Line.failed l.fn.line)
     (g.L.Line.ends l.fn.line ≤ g.L.Line.ends l.line)
     (l.ended ≡ true → g.L.Line.ends l.fn.line < g.L.Line.ends l.line)
+    (l.ended ≡ false → g.L.Line.ends l.line ≡ g.L.Line.ends l.fn.line)
+    (g.L.Line.ends l.line ≤ g.L.Line.ends l.fn.line + 1)
 
 abbrev pub decreases-reads : goal.decreases-reads
 decreases-reads g l = work (g.L.Line.reads_left l.line) l.buffer.items

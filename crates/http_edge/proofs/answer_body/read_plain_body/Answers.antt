@@ -113,7 +113,7 @@ reads-preserved g c =
         q.2,
       );
       kept = c.in_ok-fill.ensures.kept ∙ inv.kept;
-      ends = omega (arith, c.in_ok-fill.ensures.ends, inv.ends);
+      ends = c.in_ok-fill.ensures.more (ap Ok c.if-not-branch.false) ∙ inv.ends;
     }
 
 pub reads-init : goal.reads-init
@@ -122,5 +122,5 @@ reads-init g c = record {
   body = [];
   so_far = (no_call, search rules, search rules);
   kept = refl;
-  ends = search rules;
+  ends = refl;
 }

@@ -1,4 +1,4 @@
-use Rattle.std.proofs.Common.{◌≡◌, ◌≤◌, List, ℕ, [], ◌++◌}
+use Rattle.std.proofs.Common.{◌≡◌, List, ℕ, [], ◌++◌}
 use Rattle.http_line.specs.Line.{Moves}
 use Rattle.http_edge.specs.Steps.{work}
 use Rattle.http_edge.specs.AnswerBody.{HasCome, Keeps}
@@ -16,7 +16,7 @@ invariant-reads g l = Reads
     (λ read body. Moves g.L.Line.gives g.L.Line.takes l.fn.line l.line read []
     × HasCome l.framing (l.fn.buffer.items ++ read) l.decoder body l.buffer.items × Keeps body l.kept)
     (g.L.Line.failed l.line ≡ g.L.Line.failed l.fn.line)
-    (g.L.Line.ends l.fn.line ≤ g.L.Line.ends l.line)
+    (g.L.Line.ends l.line ≡ g.L.Line.ends l.fn.line)
 
 abbrev pub decreases-reads : goal.decreases-reads
 decreases-reads g l = work (g.L.Line.reads_left l.line) l.buffer.items

@@ -1,19 +1,23 @@
-use Rattle.std.proofs.Common.{◌≡◌, ◌≤◌, List, ℕ, [], ◌++◌}
+use Rattle.std.proofs.Common.{◌≡◌, List, ℕ, [], ◌++◌}
+use Rattle.httparse.specs.Grammar.{HasNoResponse}
 use Rattle.http_line.specs.Line.{Moves}
+use Rattle.http_edge.specs.Stages.{IsWatched}
 use Rattle.http_edge.specs.Steps.{work}
 use Rattle.http_edge.proofs.answer_head.read_answer_head.Given as goal
 
-pub record Reads (P : List ℕ → Type 0) (Q R : Type 0) : Type 0 where
+pub record Reads (P : List ℕ → Type 0) (Q R W : Type 0) : Type 0 where
   pub read : List ℕ
   pub moves : P read
   pub kept : Q
   pub ends : R
+  pub watched : W
 
 abbrev pub invariant-looks : goal.invariant-looks
 invariant-looks g l = Reads
     (λ read. Moves g.L.Line.gives g.L.Line.takes l.fn.line l.line read [] × (l.buffer.items ≡ l.fn.buffer.items ++ read))
     (g.L.Line.failed l.line ≡ g.L.Line.failed l.fn.line)
-    (g.L.Line.ends l.fn.line ≤ g.L.Line.ends l.line)
+    (g.L.Line.ends l.line ≡ g.L.Line.ends l.fn.line)
+    (IsWatched HasNoResponse l.buffer.items l.watch)
 
 abbrev pub decreases-looks : goal.decreases-looks
 decreases-looks g l = work (g.L.Line.reads_left l.line) l.buffer.items

@@ -20,7 +20,7 @@ invariant-reads g l = Reads
     × (length l.body.items < l.len → l.buffer.items ≡ []))
     (work (g.L.Line.reads_left l.line) l.buffer.items + l.from ≤ work (g.L.Line.reads_left l.fn.line) l.fn.buffer.items)
     (g.L.Line.failed l.line ≡ g.L.Line.failed l.fn.line)
-    (g.L.Line.ends l.fn.line ≤ g.L.Line.ends l.line)
+    (g.L.Line.ends l.line ≡ g.L.Line.ends l.fn.line)
     ((0 < l.most) × (l.most ≤ max_read))
 
 abbrev pub decreases-reads : goal.decreases-reads

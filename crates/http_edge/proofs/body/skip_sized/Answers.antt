@@ -32,7 +32,7 @@ reads-init g c =
       empty = λ short. c.drop_front.ensures ∙ drop_all end c.args.buffer.now.items (omega (arith, short));
       work = omega (arith, ap length c.drop_front.ensures, length-drop end c.args.buffer.now.items, fits);
       kept = refl;
-      ends = search rules;
+      ends = refl;
     }
 
 pub returns-then-not-branch-clause-on_success : goal.returns-then-not-branch-clause-on_success
@@ -82,5 +82,5 @@ reads-preserved g c =
       empty = λ _. cleared;
       work = omega (arith, c.in_ok-fill.ensures.reads, inv.work);
       kept = c.in_ok-fill.ensures.kept ∙ inv.kept;
-      ends = omega (arith, c.in_ok-fill.ensures.ends, inv.ends);
+      ends = c.in_ok-fill.ensures.more (ap Ok c.if-not-branch.false) ∙ inv.ends;
     }

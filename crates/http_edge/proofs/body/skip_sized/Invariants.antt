@@ -20,7 +20,7 @@ invariant-reads g l = Skips
     (0 < l.left → l.buffer.items ≡ [])
     (work (g.L.Line.reads_left l.line) l.buffer.items + l.from ≤ work (g.L.Line.reads_left l.fn.line) l.fn.buffer.items)
     (g.L.Line.failed l.line ≡ g.L.Line.failed l.fn.line)
-    (g.L.Line.ends l.fn.line ≤ g.L.Line.ends l.line)
+    (g.L.Line.ends l.line ≡ g.L.Line.ends l.fn.line)
 
 abbrev pub decreases-reads : goal.decreases-reads
 decreases-reads g l = g.L.Line.reads_left l.line

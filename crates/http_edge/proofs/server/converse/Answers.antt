@@ -22,7 +22,7 @@ messages-preserved g c =
             inv.so_far.2) on.has on.stays,
       );
       kept = c.in_ok-exchange.ensures.kept ∙ inv.kept;
-      ends = omega (arith, c.in_ok-exchange.ensures.ends, inv.ends);
+      ends = c.in_ok-exchange.ensures.goes_on (ap Ok c.if-branch.true) ∙ inv.ends;
     }
 
 pub returns-clause-talk : goal.returns-clause-talk
@@ -97,5 +97,5 @@ messages-init g c = record {
   exchanges = [];
   so_far = (no_call, refl, search rules);
   kept = refl;
-  ends = search rules;
+  ends = refl;
 }

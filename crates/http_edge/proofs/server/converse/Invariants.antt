@@ -1,4 +1,4 @@
-use Rattle.std.proofs.Common.{◌≡◌, ◌≤◌, List, ℕ}
+use Rattle.std.proofs.Common.{◌≡◌, List, ℕ}
 use Rattle.http_line.specs.Line.{Moves}
 use Rattle.http_edge.specs.Steps.{work}
 use Rattle.http_edge.specs.Talk.{Exchange, Asks, told, Runs}
@@ -17,7 +17,7 @@ invariant-messages g l = Served
     × Runs g.H.Handler.answers l.fn.handler es l.handler
     × Asks read es l.buffer.items)
     (g.L.Line.failed l.line ≡ g.L.Line.failed l.fn.line)
-    (g.L.Line.ends l.fn.line ≤ g.L.Line.ends l.line)
+    (g.L.Line.ends l.line ≡ g.L.Line.ends l.fn.line)
 
 abbrev pub decreases-messages : goal.decreases-messages
 decreases-messages g l = work (g.L.Line.reads_left l.line) l.buffer.items

@@ -1,4 +1,4 @@
-use Rattle.std.proofs.Common.{Ok, [], refl, ap, append-nil, true, false, arith}
+use Rattle.std.proofs.Common.{Ok, [], refl, ap, ◌∙◌, append-nil, true, false, arith}
 use Rattle.std.proofs.lemmas.Result.{err_from_is_err_and}
 use Rattle.http_edge.specs.Talk.{RefusesHead, at_head, many_lines, nothing, refusing, waits, refuses, in_head, at_front, behind_head, at_refusal}
 use Rattle.http_edge.specs.Reply.{refusal_text}
@@ -140,3 +140,17 @@ returns-in_err-goes-in-Whole-clause-on_error g c =
     c.from_residual-in_err-goes-in-Whole.ensures.1 in
     let same = p.2 in
     rw p.1 (cut_by (cut_after e.1 e.2 c.in_err-goes-in-Whole.ensures.on_error) (cc))
+
+pub returns-in_ok-goes-in-Whole-clause-goes_on : goal.returns-in_ok-goes-in-Whole-clause-goes_on
+returns-in_ok-goes-in-Whole-clause-goes_on g c = λ eq.
+    c.in_ok-goes-in-Whole.ensures.goes_on eq ∙ (rw c.in-Whole.is at c.in_ok-read_head.ensures.whole)
+
+pub returns-in_ok-goes-in-Whole-clause-stops : goal.returns-in_ok-goes-in-Whole-clause-stops
+returns-in_ok-goes-in-Whole-clause-stops g c =
+    let same = rw c.in-Whole.is at c.in_ok-read_head.ensures.whole in
+    omega (arith, c.in_ok-goes-in-Whole.ensures.stops, same)
+
+pub returns-in_err-goes-in-Whole-clause-stops : goal.returns-in_err-goes-in-Whole-clause-stops
+returns-in_err-goes-in-Whole-clause-stops g c =
+    let same = rw c.in-Whole.is at c.in_ok-read_head.ensures.whole in
+    omega (arith, c.in_err-goes-in-Whole.ensures.stops, same)

@@ -262,3 +262,8 @@ returns-in_ok-goes-in-Whole-clause-work g c = λ eq.
       c.in_ok-read_body.ensures.work,
       c.in_ok-interim.ensures.reads,
     )
+
+pub returns-in_ok-goes-in-Whole-clause-goes_on : goal.returns-in_ok-goes-in-Whole-clause-goes_on
+returns-in_ok-goes-in-Whole-clause-goes_on g c = λ _.
+    c.in_ok-goes-in-Whole.ensures.end
+    ∙ ((rw c.in-Whole.is at c.in_ok-read_body.ensures.whole) ∙ c.in_ok-interim.ensures.end)
