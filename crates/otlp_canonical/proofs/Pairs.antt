@@ -50,7 +50,7 @@ pub pair_from : {A : Type 0} (o : Option A) (room : ℕ) (text key mid bs end : 
 pair_from None room text key mid bs end deep p some q none valid value = tt
 pair_from (Some x) room text key mid bs end deep p some q none valid value = pair_of room text key mid bs end deep p some q none valid value
 
-pair_whole : (room : ℕ) (text key mid bs end string more : List ℕ) → 2 ≤ room → text ≡ bytes_field 1 key ++ mid → 0 < length key
+pub pair_whole : (room : ℕ) (text key mid bs end string more : List ℕ) → 2 ≤ room → text ≡ bytes_field 1 key ++ mid → 0 < length key
     → mid ≡ bytes_field 2 bs ++ end → length end ≡ 0 → bs ≡ bytes_field 1 string ++ more → length more ≡ 0 → IsUtf8 key → IsUtf8 string
     → Whole key_value_text (SoundKeyValue room) text
 pair_whole room text key mid bs end string more deep p some q none r nothing_more valid text_valid =

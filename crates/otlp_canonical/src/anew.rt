@@ -10,7 +10,7 @@ ghost use Rattle.otlp_canonical.specs.Anew.{gather, GivesWay, HasParts, IsFirst,
 ghost use Rattle.otlp_canonical.specs.Inner.{ReadAlike, FieldAlike, PutFor};
 
 use crate::attribute::{field_size, varint_size};
-use crate::field::is_utf8;
+use crate::field::{is_utf8, short_field};
 use crate::unknown::Keeping;
 use otlp_trace::{AnyValue, KeyValue, put_bytes_field, put_some_bytes, wrap_in_field};
 use pb_wire::{Field, Value, WireType, next_field, put_tag, put_varint};
@@ -151,6 +151,40 @@ fn split_pair(text: &[u8], depth: u32) -> Option<Pair<'_>>
     })
 }
 
+/// The key and the value, where the text is a key and a value behind it, with lengths of one byte, as most are.
+#[inline(always)]
+fn short_pair(text: &[u8]) -> Option<Pair<'_>>
+    ensures { (depth : ℕ) → IfSome result (λ pair. IsPair depth text.now pair.key.now pair.value.now
+        pair.has_value pair.unknown) }
+{
+    let (key, behind) = short_field(text, 1)?;
+    let (value, end) = short_field(behind, 2)?;
+    if !end.is_empty() {
+        return None;
+    }
+    if !is_utf8(key) {
+        return None;
+    }
+    Some(Pair {
+        key,
+        value,
+        has_value: true,
+        unknown: 0,
+    })
+}
+
+/// The key and the value, where the text has one value at most. Most are short, and take no walk.
+#[inline(always)]
+fn pair_in(text: &[u8], depth: u32) -> Option<Pair<'_>>
+    ensures { IfSome result (λ pair. IsPair depth text.now pair.key.now pair.value.now
+        pair.has_value pair.unknown) }
+{
+    if let Some(pair) = short_pair(text) {
+        return Some(pair);
+    }
+    split_pair(text, depth)
+}
+
 /// A value of which one member counts.
 #[derive(Clone, Copy)]
 struct Chosen<'a> {
@@ -226,7 +260,7 @@ pub fn parts_of(text: &[u8], room: u32) -> Option<Parts<'_>>
         return None;
     }
     let depth = 101u32.saturating_sub(room);
-    let pair = split_pair(text, depth)?;
+    let pair = pair_in(text, depth)?;
     let inside = 102u32.saturating_sub(room);
     let chosen = split_value(pair.value, inside)?;
     Some(Parts { pair, chosen })

@@ -9,6 +9,7 @@ ghost use Rattle.otlp_read.specs.AnyValue.{no_key_value, key_value_step};
 
 use crate::anew::put_respelled;
 use crate::field::short_field;
+use crate::number::split;
 use otlp_trace::put_bytes_field;
 use pb_wire::{Value, WireType, next_field, put_tag, put_varint};
 use std::alloc::AllocError;
@@ -32,21 +33,52 @@ pub fn field_size(held: usize) -> usize {
         .saturating_add(varint_size(held as u64))
 }
 
-/// Whether the attribute begins with a key of fewer than 128 bytes and its length in one byte, as most do.
+/// The length of the key, where the attribute begins with one of fewer than 128 bytes and its length in one byte, as
+/// most do.
 #[inline(always)]
-fn begins_with_key(text: &[u8]) -> bool {
-    match text.get(1) {
-        Some(1..=0x7f) => text[0] == 0x0a,
-        _ => false,
+fn short_key(text: &[u8]) -> Option<u8> {
+    let (front, _rest) = text.split_first_chunk::<2>()?;
+    if front[0] == 0x0a && matches!(front[1], 1..=0x7f) {
+        Some(front[1])
+    } else {
+        None
+    }
+}
+
+/// Whether the value behind a key of so many bytes, both with lengths of one byte, begins with what isn't known, or
+/// with a string behind which more stands.
+#[inline(always)]
+fn holds_more(text: &[u8], key_size: u8) -> bool {
+    let Some((_key, behind)) = split(text, usize::from(key_size) + 2) else {
+        return false;
+    };
+    let Some((front, _rest)) = behind.split_first_chunk::<4>() else {
+        return false;
+    };
+    match front[2] {
+        0x0a => usize::from(front[3]) + 2 != usize::from(front[1]) && front[1] < 0x80,
+        0x10 | 0x18 | 0x21 | 0x2a | 0x32 | 0x3a => false,
+        _ => front[1] < 0x80,
+    }
+}
+
+/// Whether the attribute begins with a key, as most do, and with a value that doesn't hold more.
+#[inline(always)]
+fn begins_plainly(text: &[u8]) -> bool {
+    match short_key(text) {
+        Some(size) => !holds_more(text, size),
+        None => false,
     }
 }
 
 /// Whether the attribute's text can't be canonical, by what it begins with: an empty key, a key whose length is longer
 /// than it has to be, a value behind which a key stands, or a field that isn't known, behind which one of these stands
-/// as a rule.
+/// as a rule. Nor can it be, as a rule, where its value begins with a field that isn't known, or with a string and
+/// more.
+#[inline(always)]
 pub fn begins_otherwise(text: &[u8]) -> bool {
-    if begins_with_key(text) {
-        return false;
+    if let Some(size) = short_key(text) {
+        return holds_more(text, size);
     }
     match text.first() {
         Some(0x0a) => text.len() <= LONGEST_SHORT,
@@ -76,10 +108,19 @@ pub fn is_plain(text: &[u8]) -> bool {
 const LONGEST_SHORT: usize = 130;
 
 /// Whether a key stands behind the first field.
-fn is_behind_value(text: &[u8]) -> bool {
+fn is_behind_field(text: &[u8]) -> bool {
     match next_field(text, 0) {
         Ok(Some((_value, rest))) => matches!(rest.first(), Some(0x0a)),
         _ => false,
+    }
+}
+
+/// Whether a key stands behind the value, the first field.
+#[inline(always)]
+fn is_behind_value(text: &[u8]) -> bool {
+    match short_field(text, 2) {
+        Some((_value, rest)) => matches!(rest.first(), Some(0x0a)),
+        None => is_behind_field(text),
     }
 }
 
@@ -88,6 +129,7 @@ fn is_behind_value(text: &[u8]) -> bool {
 const LONGEST_RESPELLED: usize = 16_384;
 
 /// Whether the attribute of a span of so many bytes is respelled while the span is looked for defaults.
+#[inline(always)]
 pub fn is_respelled(text: &[u8], span: usize) -> bool {
     span <= LONGEST_RESPELLED && begins_otherwise(text)
 }
@@ -101,7 +143,7 @@ pub fn short_attribute(text: &[u8], span: usize) -> Option<(&[u8], &[u8])>
     ensures short { IfSome result (λ x. length x.0.now < 128) }
 {
     let (attribute, rest) = short_field(text, 9)?;
-    if begins_with_key(attribute) || !is_respelled(attribute, span) {
+    if begins_plainly(attribute) || !is_respelled(attribute, span) {
         Some((attribute, rest))
     } else {
         None

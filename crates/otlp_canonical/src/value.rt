@@ -138,15 +138,14 @@ fn list(text: &[u8], room: u32) -> Option<()>
     Some(())
 }
 
-/// What stands behind a string, a bool or a number.
+/// What stands behind a bool or a number.
 #[inline(always)]
-fn plain(text: &[u8]) -> Option<&[u8]>
+fn scalar(text: &[u8]) -> Option<&[u8]>
     ensures { (room : ℕ) → IfSome result
         (λ rest. Front kind_text (SoundKind room) text.now rest.now) }
 {
     let first = text.first()?;
     match *first {
-        0x0a => string(text),
         0x10 => boolean(text),
         0x18 => int(text),
         0x21 => double(text),
@@ -154,13 +153,13 @@ fn plain(text: &[u8]) -> Option<&[u8]>
     }
 }
 
-/// Goes over a key whose value is a string, a bool or a number behind which nothing stands, and over that value.
-fn plain_value(key: &[u8], value: &[u8]) -> Option<()>
+/// Goes over a key whose value is a bool or a number behind which nothing stands, and over that value.
+fn scalar_pair(key: &[u8], value: &[u8]) -> Option<()>
     ensures key { IfSome result (λ u. IsUtf8 key.now) }
     ensures value { (room : ℕ) → 0 < room → IfSome result
         (λ u. Whole any_text (SoundAny room) value.now) }
 {
-    let rest = plain(value)?;
+    let rest = scalar(value)?;
     if !rest.is_empty() {
         return None;
     }
@@ -181,8 +180,8 @@ fn short_front(text: &[u8], number: u8) -> Option<(usize, &[u8])>
     Some((usize::from(front[1]), rest))
 }
 
-/// Goes over a key with a string, a bool or a number behind which nothing stands, where each length has one byte, as
-/// most attributes are. One with a string in ASCII is looked at once for all: such lengths are ASCII, too.
+/// Goes over a key with a string in ASCII, a bool or a number behind which nothing stands, where each length has one
+/// byte, which most attributes are. One with a string is looked at once for all: in ASCII such lengths are, too.
 #[inline(always)]
 fn short_pair(text: &[u8], room: u32) -> Option<()>
     ensures { IfSome result (λ u. Whole key_value_text (SoundKeyValue room) text.now) }
@@ -199,15 +198,16 @@ fn short_pair(text: &[u8], room: u32) -> Option<()>
     if value.len() != value_size {
         return None;
     }
-    if let Some((string_size, string)) = short_front(value, 1) {
-        if string.len() == string_size && text.is_ascii() {
-            return Some(());
+    let Some((string_size, string)) = short_front(value, 1) else {
+        if key_size >= 128 || value_size >= 128 {
+            return None;
         }
-    }
-    if key_size >= 128 || value_size >= 128 {
+        return scalar_pair(key, value);
+    };
+    if string.len() != string_size {
         return None;
     }
-    plain_value(key, value)
+    if text.is_ascii() { Some(()) } else { None }
 }
 
 /// Goes over a key with a string, a bool or a number behind which nothing stands, whose lengths have any number of
@@ -227,7 +227,20 @@ fn plain_pair(text: &[u8], room: u32) -> Option<()>
     if !end.is_empty() {
         return None;
     }
-    plain_value(key, value)
+    let Some((string, more)) = bytes_field(value, 1) else {
+        return scalar_pair(key, value);
+    };
+    if !more.is_empty() {
+        return None;
+    }
+    if !is_utf8(key) {
+        return None;
+    }
+    if str::from_utf8(string).is_err() {
+        None
+    } else {
+        Some(())
+    }
 }
 
 /// Goes over a key with or without a value.

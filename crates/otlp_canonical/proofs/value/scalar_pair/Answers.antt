@@ -3,7 +3,7 @@ use Rattle.otlp_read.specs.Nested.{known_of_any}
 use Rattle.otlp_canonical.proofs.Others.{none_kept}
 use Rattle.otlp_canonical.proofs.Parts.{nothing}
 use Rattle.otlp_canonical.proofs.Values.{any_whole}
-use Rattle.otlp_canonical.proofs.value.plain_value.Goals as goal
+use Rattle.otlp_canonical.proofs.value.scalar_pair.Goals as goal
 
 pub returns-then-is_utf8-clause-value : goal.returns-then-is_utf8-clause-value
 returns-then-is_utf8-clause-value c room some =
