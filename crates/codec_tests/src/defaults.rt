@@ -132,6 +132,19 @@ a_key_that_is_not_utf_8_behind_its_value 4a0812030a01760a01ff none\n\
 a_value_of_two_members_before_its_key 4a0a12050a017610010a016b 4a070a016b12021001\n\
 a_value_before_a_key_behind_an_event 5a004a0812030a01760a016b none\n\
 a_string_that_is_not_utf_8_before_its_key 4a0812030a01ff0a016b none\n\
+# A value that begins with a string and more, or with what isn't known, and what isn't known before a value.\n\
+two_members 4a0a0a016b12050a01761001 4a070a016b12021001\n\
+two_members_and_an_empty_parent 22004a0a0a016b12050a01761001 4a070a016b12021001\n\
+two_strings 4a0b0a016b12060a01750a0176 4a080a016b12030a0176\n\
+two_members_and_not_known_between 4a0c0a016b12070a017640011001 4a090a016b120410014001\n\
+two_members_among_canonical_attributes \
+4a030a016b4a0a0a016b12050a017610014a080a016b12030a0176 4a030a016b4a070a016b120210014a080a016b12030a0176\n\
+not_known_before_a_string 4a0a0a016b120540010a0176 4a0a0a016b12050a01764001\n\
+not_known_before_a_value 4a0a0a016b180112030a0176 4a0a0a016b12030a01761801\n\
+not_known_in_a_value_and_in_its_attribute 4a0e38010a016b120540010a01761802 4a0e0a016b12050a0176400138011802\n\
+two_members_behind_a_longer_length 4a0d0a016b12858080000a01761001 none\n\
+a_string_that_is_not_utf_8_and_a_bool 4a0a0a016b12050a01ff1001 none\n\
+an_array_between_two_members 4a110a016b120c0a01762a050a030a01761001 none\n\
 # An event's name before its time, as that client writes it.\n\
 an_event_with_its_name_first 5a998080001201650901000000000000001a888080000a016b12030a0176 \
 5a160901000000000000001201651a080a016b12030a0176\n\
