@@ -6,6 +6,7 @@ ghost use Rattle.machine_hub.specs.Hub.{slots_of};
 use bytes::Bytes;
 use decision_cache::HashKeys;
 use http_edge::Reply;
+use service_runtime::Gates;
 use shared_hub::{Caller, HubFault, SharedHub};
 use std::alloc::{AllocError, Global};
 use std::sync::Wait;
@@ -13,7 +14,7 @@ use std::test::Fail;
 use std::thread::Threads;
 use tail_settings::{Settings, load};
 use tenant_shard::{Outcome, Step};
-use trace_service::{Gates, post_body};
+use trace_service::post_body;
 
 /// The tests' own trace ids are no one's choice.
 const KEYS: HashKeys = HashKeys {

@@ -35,6 +35,7 @@ ghost use Rattle.trace_collector.specs.declared.engine.ReplayFault.TheVariants a
 use check::{End, check_file};
 use reason::Reason;
 use serve::serve_file;
+use service_runtime::Documents;
 use standard::stand_in;
 use std::alloc::{AllocError, AllocFailed, Global};
 use std::fs::File;
@@ -51,7 +52,6 @@ use tail_settings::SettingsFault;
 use task::{HELP, Task, VERSION, asked_task};
 use thiserror::Error;
 use trace_collector::{ReplayFault, replay};
-use trace_service::Documents;
 
 /// So much of the script is read at once.
 const READ_SIZE: usize = 65_536;

@@ -14,6 +14,9 @@ use crate::task::{ServeOptions, VERSION};
 use crate::watched::Watched;
 use crate::{ProgramFault, READ_SIZE};
 use decision_cache::HashKeys;
+use service_runtime::{
+    ADMINS, AdminDesk, AdminPort, DeskDocuments, DeskInput, DeskOutput, Documents, Observer, Stage,
+};
 use std::alloc::Global;
 use std::fs::File;
 use std::io;
@@ -27,10 +30,7 @@ use std::time::{Clock, Duration};
 use tail_settings::{GlobalSettings, Settings};
 use thiserror::Error;
 use trace_collector::ReplayFault;
-use trace_service::{
-    ADMINS, AdminDesk, AdminPort, Console, DeskDocuments, DeskInput, DeskOutput, Documents,
-    Observer, ServiceFault, ServiceOptions, ServiceStart, Stage, run_service,
-};
+use trace_service::{Console, ServiceFault, ServiceOptions, ServiceStart, run_service};
 
 impl From<ServiceFault> for ProgramFault {
     ghost from_gives = { λ fault given. given ≡ of_service fault };

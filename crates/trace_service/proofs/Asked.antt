@@ -3,11 +3,11 @@ use Rattle.std.proofs.Common.{◌≡◌, ℕ, List, ◌++◌, codes, get_or, Boo
 use Rattle.std.specs.Bool.{OnTrue}
 use Rattle.std.proofs.lemmas.List.{append_cancel_left}
 use Rattle.otlp_front.specs.Route.{number_of}
+use Rattle.service_runtime.specs.Documents.{Reads}
+use Rattle.service_runtime.specs.Output.{Output, IsPut}
 use Rattle.shared_hub.specs.Logs.{CallerState}
 use Rattle.tail_settings.specs.Settings.{SettingsData}
 use Rattle.trace_service.specs.Comings.{Present, Standing, IsAdded}
-use Rattle.trace_service.specs.Documents.{Reads}
-use Rattle.trace_service.specs.Output.{Output, IsPut}
 use Rattle.trace_service.specs.Commands.{AsksNothing, IsReportedOf, IsRetiredOf, IsAnswered, reports, adds, retires, asks_nothing}
 
 -- a line has one byte at a place

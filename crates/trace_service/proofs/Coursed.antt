@@ -1,12 +1,12 @@
 -- From what who reads the input did to what the service comes to.
 use Rattle.std.proofs.Common.{◌≡◌, ℕ, List, [], ◌∷◌, map, Option, Result, Ok, Err, IfOk, OnOk, Bool, sym, subst}
+use Rattle.service_runtime.specs.Documents.{Reads}
+use Rattle.service_runtime.specs.Output.{Output}
 use Rattle.shared_hub.specs.Logs.{CallerState}
 use Rattle.tail_settings.specs.Change.{Change}
 use Rattle.tail_settings.specs.Settings.{SettingsData}
 use Rattle.trace_service.specs.Comings.{Present, Standing}
 use Rattle.trace_service.specs.Commands.{AreDrained, AreEmptyOn, AreReported, AreCommandsRead}
-use Rattle.trace_service.specs.Documents.{Reads}
-use Rattle.trace_service.specs.Output.{Output}
 use Rattle.trace_service.specs.Roster.{entry_of}
 use Rattle.trace_service.specs.declared.roster.Present.{Present as Entry}
 use Rattle.trace_service.specs.Whole.{IsDirected, IsCourse}

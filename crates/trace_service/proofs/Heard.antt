@@ -4,12 +4,13 @@ use Rattle.std.specs.Prelude.{take, map}
 use Rattle.std.specs.Io.BufRead.{drop_through}
 use Rattle.std.specs.List.{onto_first}
 use Rattle.replay_script.specs.Line.{lines_of}
+use Rattle.service_runtime.specs.Documents.{Reads}
+use Rattle.service_runtime.specs.Output.{Output}
+use Rattle.service_runtime.specs.Input.{line_in, line_room, TakesLine}
 use Rattle.shared_hub.specs.Logs.{CallerState}
 use Rattle.tail_settings.specs.Settings.{SettingsData}
 use Rattle.trace_service.specs.Comings.{Standing}
-use Rattle.trace_service.specs.Documents.{Reads}
-use Rattle.trace_service.specs.Output.{Output}
-use Rattle.trace_service.specs.Commands.{line_in, line_room, kept_lines, TakesLine, IsAnswered, AreAnswered, no_answer, answer_more, AreCommandsRead}
+use Rattle.trace_service.specs.Commands.{kept_lines, IsAnswered, AreAnswered, no_answer, answer_more, AreCommandsRead}
 
 -- a text that isn't empty begins with its first line
 first_line : (b : ℕ) (bytes : List ℕ) → lines_of (b ∷ bytes) ≡ line_in (b ∷ bytes) ∷ lines_of (drop_through 10 (b ∷ bytes))

@@ -1,5 +1,6 @@
 -- From what became of a document and its tenant to what came of the line that asked for it.
 use Rattle.std.proofs.Common.{◌≡◌, ℕ, List, [], ◌∷◌, ◌++◌, append_assoc, Option, None, Result, Ok, Err, IfErr, inl, sym, ap, subst, ◌∙◌}
+use Rattle.service_runtime.specs.Documents.{Reads}
 use Rattle.shared_hub.specs.Logs.{CallerState}
 use Rattle.tail_settings.specs.Change.{Change, admit, strike}
 use Rattle.tail_settings.specs.Fault.{FaultData}
@@ -8,7 +9,7 @@ use Rattle.trace_service.specs.declared.comings.NotAdded.{NotAdded}
 use Rattle.trace_service.specs.declared.comings.NotAdded.TheVariants.{OutOfMemory}
 use Rattle.trace_service.specs.declared.in_force.Newcomer.{Newcomer}
 use Rattle.trace_service.specs.Comings.{Standing, why_not, not_added_text, IsAdded, added, not_joined, turned_away, unread, IsJoined, IsNotJoined, IsStruck}
-use Rattle.trace_service.specs.Documents.{Reads, IsUnread}
+use Rattle.trace_service.specs.Documents.{IsUnread}
 use Rattle.trace_service.specs.InForce.{IsLetIn, IsTurnedAway}
 
 module _ (reads : Reads) (first : SettingsData) (shards : ℕ) (path : List ℕ) (standing : Standing) (old : CallerState) (left : Standing) where

@@ -1,8 +1,5 @@
 pub mod Audited
-pub mod Lines
-pub mod Unread
 pub mod Places
-pub mod Rising
 pub mod Heard
 pub mod Coursed
 pub mod Handled
@@ -11,10 +8,8 @@ pub mod Came
 pub mod Admitted
 pub mod Below
 pub mod Standing
-pub mod Put
 pub mod Asked
 pub mod Joined
-pub mod Talked
 pub mod Replies
 pub mod Shown
 pub mod Jobs

@@ -3,12 +3,12 @@ use Rattle.std.proofs.Common.{◌≡◌, ℕ, ◌+◌, ◌%◌, ◌<◌, ◌==�
 use Rattle.std.specs.Str.{bytes_eq}
 use Rattle.std.proofs.lemmas.List.{map_more, at_drop_more}
 use Rattle.otlp_front.specs.Route.{number_of}
+use Rattle.service_runtime.specs.Output.{Output}
 use Rattle.shared_hub.specs.Logs.{CallerState, IsEmptyOn}
 use Rattle.tenant_shard.specs.declared.step.Outcome.{Outcome}
 use Rattle.trace_service.specs.declared.roster.Present.{Present}
 use Rattle.trace_service.specs.declared.chore.Chore.TheVariants.{Drain}
 use Rattle.trace_service.specs.Commands.{IsMade, step_of, IsReported, AreDrained, drain_more, AreReported, report_more, AreEmptyOn}
-use Rattle.trace_service.specs.Output.{Output}
 use Rattle.trace_service.specs.Roster.{entry_of}
 
 abbrev pub number : Present → ℕ

@@ -4,13 +4,13 @@ use Rattle.export_edge.specs.Work.{Through}
 use Rattle.http_edge.specs.Message.{Request, Response}
 use Rattle.http_edge.specs.declared.message.RefusalForm.{RefusalForm}
 use Rattle.job_lane.specs.Lane.{LaneName, SeatLists, new_seat}
+use Rattle.service_runtime.specs.Receiving.{IsTalk, Served, IsRound, somebody, nobody, Rounds, no_round, round_more, Receiving}
+use Rattle.service_runtime.proofs.Talked.{talk_keeps}
 use Rattle.shared_hub.specs.Logs.{CallerState}
 use Rattle.tail_settings.specs.Settings.{SettingsData}
 use Rattle.trace_service.specs.Jobs.{IsThread, Handling, Handles, receiver}
 use Rattle.trace_service.specs.Post.{IsHandled}
-use Rattle.trace_service.specs.Receiving.{IsTalk, Served, IsRound, somebody, nobody, Rounds, no_round, round_more, Receiving}
 use Rattle.trace_service.proofs.Jobs.{apart}
-use Rattle.trace_service.proofs.Talked.{talk_keeps}
 
 -- what is kept while each guest is served is kept over all rounds, where nothing is done else
 module _ {D G : Type 0} (serves : D → G → D → Type 0) (Keeps : D → D → Type 0) (at_rest : (s : D) → Keeps s s)

@@ -1,5 +1,7 @@
 -- Who is present are the tenants of the settings that the changes made.
 use Rattle.std.proofs.Common.{◌≡◌, ℕ, List, [], ◌∷◌, ◌++◌, map, filter, ◌==◌, not, cond, append_assoc, Bool, true, false, Option, Some, None, Ok, inl, inr, string_bytes, refl, sym, ap, subst, ◌∙◌}
+use Rattle.service_runtime.specs.Documents.{Reads}
+use Rattle.service_runtime.specs.Output.{Output}
 use Rattle.shared_hub.specs.Logs.{CallerState}
 use Rattle.tail_settings.specs.Change.{Change, admit, strike, struck, admitted, or_before, after}
 use Rattle.tail_settings.specs.Fault.{FaultData}
@@ -7,9 +9,7 @@ use Rattle.tail_settings.specs.Settings.{SettingsData}
 use Rattle.trace_service.specs.declared.in_force.Newcomer.{Newcomer}
 use Rattle.trace_service.specs.Comings.{Standing, IsAdded, added, not_joined, turned_away, unread}
 use Rattle.trace_service.specs.Commands.{IsAnswered, reports, adds, retires, asks_nothing, AreAnswered, no_answer, answer_more, stays, without, AreInForce, TenantsAreInForce}
-use Rattle.trace_service.specs.Documents.{Reads}
 use Rattle.trace_service.specs.InForce.{IsLetIn, IsTurnedAway}
-use Rattle.trace_service.specs.Output.{Output}
 use Rattle.trace_service.proofs.Below.{AreBelow, are_below, named, last_named, back_again, named_without}
 use Rattle.trace_service.proofs.Came.{after_more}
 

@@ -1,8 +1,8 @@
 -- What the service prints of its shards' logs. This project's own rule.
 use Rattle.std.specs.Prelude.{◌≡◌, ℕ, List, [], ◌∷◌, ◌++◌, codes, length, Bool, true, false}
 use Rattle.std.specs.Fmt.{decimal}
+use Rattle.service_runtime.specs.Output.{Output, IsPut}
 use Rattle.shared_hub.specs.Logs.{LoggedShard}
-use Rattle.trace_service.specs.Output.{Output, IsPut}
 
 -- how many entries a shard's log has
 abbrev pub audit_line : ℕ → ℕ → List ℕ

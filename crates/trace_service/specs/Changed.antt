@@ -9,12 +9,12 @@ use Rattle.drop_ledger.specs.Report.{report_text as counters_text}
 use Rattle.http_edge.specs.Message.{Response}
 use Rattle.http_edge.specs.declared.message.MediaType.TheVariants.{Json}
 use Rattle.replay_script.specs.Answer.{refused_text, report_text}
+use Rattle.service_runtime.specs.Notice.{came_reply, notice_of, reply_of, unknown_reply}
+use Rattle.service_runtime.specs.declared.desk.Asked.{Asked}
+use Rattle.service_runtime.specs.declared.desk.Asked.TheVariants.{Told, Late, Busy, Ended}
 use Rattle.settings_check.specs.Report.{IsFileReport}
 use Rattle.tenant_shard.specs.Outcomes.{not_member, not_empty}
-use Rattle.trace_service.specs.Notice.{came_reply, notice_of, reply_of, unknown_reply}
 use Rattle.trace_service.specs.Post.{no_memory}
-use Rattle.trace_service.specs.declared.desk.Asked.{Asked}
-use Rattle.trace_service.specs.declared.desk.Asked.TheVariants.{Told, Late, Busy, Ended}
 
 -- that the tenant of this name goes
 abbrev pub going_text : List ℕ → List ℕ

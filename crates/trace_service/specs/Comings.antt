@@ -3,6 +3,7 @@ use Rattle.std.specs.Prelude.{◌≡◌, ℕ, ◌%◌, List, [], ◌∷◌, ◌+
 use Rattle.machine_hub.specs.declared.receipt.Receipt.{Receipt}
 use Rattle.machine_hub.specs.Hub.{IsRefusedOn}
 use Rattle.replay_script.specs.Answer.{added_text, refused_text}
+use Rattle.service_runtime.specs.Documents.{Reads}
 use Rattle.shared_hub.specs.Logs.{CallerState, IsStepOn}
 use Rattle.tail_settings.specs.Change.{Change, admit, strike, after}
 use Rattle.tail_settings.specs.Fault.{FaultData, fault_number}
@@ -13,7 +14,7 @@ use Rattle.tenant_shard.specs.declared.step.Outcome.TheVariants as outcomes
 use Rattle.trace_service.specs.declared.comings.NotAdded.{NotAdded}
 use Rattle.trace_service.specs.declared.comings.NotAdded.TheVariants.{Refused, OutOfMemory}
 use Rattle.trace_service.specs.declared.in_force.Newcomer.{Newcomer}
-use Rattle.trace_service.specs.Documents.{Reads, IsUnread}
+use Rattle.trace_service.specs.Documents.{IsUnread}
 use Rattle.trace_service.specs.InForce.{IsNewcomer, IsLetIn, IsTurnedAway}
 
 -- the tenants that are present, by number and name, in the order of their numbers

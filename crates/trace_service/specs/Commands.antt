@@ -1,12 +1,15 @@
 -- What the input asks for, and what is done for it and at its end. This project's own rule.
-use Rattle.std.specs.Prelude.{◌≡◌, ℕ, ◌%◌, ◌<◌, List, [], ◌∷◌, ◌++◌, length, filter, not, take, ◌==◌, if◌then◌else◌, codes, map, All, Bool, true, false, Option, Some, None, IfSome}
-use Rattle.std.specs.Io.BufRead.{drop_through}
+use Rattle.std.specs.Prelude.{◌≡◌, ℕ, ◌%◌, ◌<◌, List, [], ◌∷◌, ◌++◌, filter, not, take, ◌==◌, if◌then◌else◌, codes, map, All, Bool, true, false, Option, Some, None, IfSome}
 use Rattle.export_edge.specs.Work.{Through}
 use Rattle.machine_hub.specs.declared.receipt.Receipt.{Receipt}
 use Rattle.machine_hub.specs.Hub.{IsRefusedOn}
 use Rattle.otlp_front.specs.Route.{names_in, number_of}
 use Rattle.replay_script.specs.Answer.{report_text, refused_text}
 use Rattle.replay_script.specs.Line.{lines_of}
+use Rattle.service_runtime.specs.Input.{line_room}
+use Rattle.service_runtime.specs.Documents.{Reads}
+use Rattle.service_runtime.specs.Moments.{Rises}
+use Rattle.service_runtime.specs.Output.{Output, IsPut}
 use Rattle.shared_hub.specs.Logs.{CallerState, IsStepOn, IsEmptyOn}
 use Rattle.tail_settings.specs.Change.{strike, after}
 use Rattle.tail_settings.specs.Settings.{SettingsData}
@@ -15,14 +18,9 @@ use Rattle.tenant_shard.specs.declared.step.Step.TheVariants as steps
 use Rattle.tenant_shard.specs.declared.step.Outcome.{Outcome}
 use Rattle.tenant_shard.specs.declared.step.Outcome.TheVariants as outcomes
 use Rattle.tenant_shard.specs.Outcomes.{not_empty}
-use Rattle.trace_service.specs.declared.input.ReadResult.{ReadResult}
-use Rattle.trace_service.specs.declared.input.ReadResult.TheVariants.{Byte, Nothing, End}
 use Rattle.trace_service.specs.declared.chore.Chore.{Chore}
 use Rattle.trace_service.specs.declared.chore.Chore.TheVariants.{Report, Drain, Retire}
 use Rattle.trace_service.specs.Comings.{Present, Standing, unchanged, IsAdded}
-use Rattle.trace_service.specs.Documents.{Reads}
-use Rattle.trace_service.specs.Moments.{Rises}
-use Rattle.trace_service.specs.Output.{Output, IsPut}
 
 -- the line asks for nothing: for the counters of nobody who is present, for nobody to come, and for nobody to go
 pub record AsksNothing (present : Present) (line : List ℕ) : Type 0 where
@@ -30,32 +28,9 @@ pub record AsksNothing (present : Present) (line : List ℕ) : Type 0 where
   pub no_coming : (path : List ℕ) → line ≡ codes "add " ++ path → ⊥
   pub no_going : (name : List ℕ) → line ≡ codes "retire " ++ name → number_of present name ≡ None
 
--- the bytes before the first line feed, or all of them
-abbrev pub line_in : List ℕ → List ℕ
-line_in [] = []
-line_in (b ∷ bytes) = if b == 10 then [] else b ∷ line_in bytes
-
--- of a line so many bytes are kept, which is one more than the longest has that asks for a tenant to come: `add`, a
--- space, and a path of 4,095 bytes
-abbrev pub line_room : ℕ
-line_room = 4100
-
 -- the lines of the text, of each as many bytes as are kept
 abbrev pub kept_lines : List ℕ → List (List ℕ)
 kept_lines text = map (take line_room) (lines_of text)
-
--- the text's first line was taken, of which the first bytes are kept, and what stands behind its line feed is left; or
--- there is no text
-abbrev pub TakesLine : List ℕ → Option (List ℕ) → List ℕ → Bool → Type 0
-TakesLine text after line true =
-    (0 < length text) × (line ≡ take line_room (line_in text)) × (after ≡ Some (drop_through 10 text))
-TakesLine text after line false = text ≡ []
-
--- what came of one read: the next byte, nothing, or the end
-abbrev pub Comes : Option (List ℕ) → Option (List ℕ) → ReadResult → Type 0
-Comes old new (Byte b) = IfSome old (λ text. (rest : List ℕ) × (text ≡ b ∷ rest) × (new ≡ Some rest))
-Comes old new Nothing = IfSome old (λ text. new ≡ Some text)
-Comes old new End = IfSome old (λ text. (text ≡ []) × (new ≡ Some []))
 
 -- what is printed of the outcome of a report or of a retirement: the tenant's counters, or why it was refused
 abbrev pub outcome_line : List ℕ → Outcome → List ℕ

@@ -2,6 +2,8 @@
 -- before it and then. This project's own rule.
 use Rattle.std.specs.Prelude.{ℕ, List, length, string_bytes, Bool, Option, is_some}
 use Rattle.otlp_front.specs.Route.{number_of}
+use Rattle.service_runtime.specs.Documents.{Reads}
+use Rattle.service_runtime.specs.Output.{Output, IsPut}
 use Rattle.tail_settings.specs.Change.{Change}
 use Rattle.tail_settings.specs.Settings.{SettingsData}
 use Rattle.trace_service.specs.declared.control.Control.{Control}
@@ -10,8 +12,6 @@ use Rattle.trace_service.specs.declared.roster.Present.{Present as Entry}
 use Rattle.trace_service.specs.declared.roster.Roster.{Roster}
 use Rattle.trace_service.specs.Comings.{Standing, IsAdded}
 use Rattle.trace_service.specs.Commands.{AreCommandsRead, IsAnswered, IsReported, IsReportedOf, IsRetiredOf}
-use Rattle.trace_service.specs.Documents.{Reads}
-use Rattle.trace_service.specs.Output.{Output, IsPut}
 use Rattle.trace_service.specs.Roster.{present_in}
 use Rattle.trace_service.specs.Whole.{IsDirected}
 

@@ -1,18 +1,10 @@
--- Documents that are read from files, and what is told where one has no text. This project's own rule.
-use Rattle.std.specs.Prelude.{◌≡◌, ◌≢◌, ℕ, List, Option, Result, Ok, Err, IfOk, IfSome, IsUtf8}
+-- What is told where a document that is to be read has no text. This project's own rule.
+use Rattle.std.specs.Prelude.{◌≡◌, ◌≢◌, ℕ, List, Ok, Err, IsUtf8}
 use Rattle.std.specs.declared.io.ErrorKind.{ErrorKind}
 use Rattle.std.specs.declared.io.ErrorKind.TheVariants as kinds
+use Rattle.service_runtime.specs.Documents.{Reads}
 use Rattle.trace_service.specs.declared.comings.NotAdded.{NotAdded}
 use Rattle.trace_service.specs.declared.comings.NotAdded.TheVariants.{Refused, OutOfMemory}
-
--- what the reading of the file at a path comes to: its bytes, or a failure of this kind
-abbrev pub Reads : Type 1
-Reads = List ℕ → Result (List ℕ) ErrorKind → Type 0
-
--- the bytes are those that some file had, where it is known what files have
-abbrev pub IsOfFile : {F : Type 0} → (F → Option (List ℕ)) → Result (List ℕ) ErrorKind → Type 0
-IsOfFile {F} remaining outcome =
-    IfOk outcome (λ bytes. (file : F) × IfSome (remaining file) (λ all. bytes ≡ all))
 
 -- the number that is told where a file can't be read, or has no text: it has no document
 abbrev pub not_read : ℕ

@@ -1,4 +1,3 @@
-pub mod Moments
 pub mod Noted
 pub mod InForce
 pub mod Post
@@ -7,20 +6,13 @@ pub mod Jobs
 pub mod Assignment
 pub mod Documents
 pub mod Comings
-pub mod Output
 pub mod Commands
 pub mod CommandReply
 pub mod Roster
 pub mod Audit
 pub mod Fault
-pub mod Receiving
-pub mod Token
-pub mod LastAnswers
-pub mod Notice
 pub mod Changed
 pub mod Shown
 pub mod Whole
 pub mod Control
-pub mod Visit
-pub mod BodyMemory
 pub mod Retried

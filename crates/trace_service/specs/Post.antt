@@ -11,6 +11,7 @@ use Rattle.otlp_prepare.specs.Prepared.{PreparedData, prepared_of}
 use Rattle.otlp_read.specs.Value.{IsValue}
 use Rattle.otlp_trace.specs.Data.{RequestData}
 use Rattle.otlp_trace.specs.Text.{refusal_text}
+use Rattle.service_runtime.specs.Moments.{Rises}
 use Rattle.shared_hub.specs.Logs.{CallerState, IsStepOn}
 use Rattle.tail_settings.specs.Section.{SectionData}
 use Rattle.tail_settings.specs.Settings.{SettingsData, section_at}
@@ -18,7 +19,6 @@ use Rattle.tenant_shard.specs.declared.step.Step.TheVariants as steps
 use Rattle.tenant_shard.specs.declared.step.Outcome.{Outcome}
 use Rattle.tenant_shard.specs.declared.step.Outcome.TheVariants as outcomes
 use Rattle.trace_service.specs.InForce.{CameOf}
-use Rattle.trace_service.specs.Moments.{Rises}
 
 -- an answer of this status and content
 abbrev pub answer : ℕ → List ℕ → Response

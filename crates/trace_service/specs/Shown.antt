@@ -22,6 +22,11 @@ use Rattle.machine_hub.specs.declared.told.Told.{Told}
 use Rattle.machine_hub.specs.Hub.{IsRefusedOn}
 use Rattle.otlp_front.specs.Route.{names_in}
 use Rattle.otlp_front.specs.Target.{path_of}
+use Rattle.service_runtime.specs.LastAnswers.{IsAnswered}
+use Rattle.service_runtime.specs.Notice.{notice_of, reply_of, not_allowed, unknown_reply}
+use Rattle.service_runtime.specs.Token.{is_let_in}
+use Rattle.service_runtime.specs.declared.desk.Asked.{Asked}
+use Rattle.service_runtime.specs.declared.admin_port.AdminPort.{AdminPort}
 use Rattle.shared_hub.specs.Logs.{CallerState, IsLookOn, IsStepOn}
 use Rattle.tail_settings.specs.Section.{SectionData}
 use Rattle.tail_settings.specs.Settings.{SettingsData, number_of, section_at}
@@ -32,12 +37,7 @@ use Rattle.tenant_shard.specs.declared.waiting.Waiting.{Waiting}
 use Rattle.trace_service.specs.Changed.{TellsAdding, TellsRetiring}
 use Rattle.trace_service.specs.Comings.{Present}
 use Rattle.trace_service.specs.InForce.{CameOf}
-use Rattle.trace_service.specs.LastAnswers.{IsAnswered}
-use Rattle.trace_service.specs.Notice.{notice_of, reply_of, not_allowed, unknown_reply}
 use Rattle.trace_service.specs.Post.{no_memory}
-use Rattle.trace_service.specs.Token.{is_let_in}
-use Rattle.trace_service.specs.declared.desk.Asked.{Asked}
-use Rattle.trace_service.specs.declared.admin_port.AdminPort.{AdminPort}
 use Rattle.trace_service.specs.declared.roster.Present.{Present as Entry}
 use Rattle.trace_service.specs.declared.shared.ServiceLimits.{ServiceLimits}
 

@@ -5,6 +5,8 @@ use Rattle.job_lane.specs.Lane.{SeatLists, IsWholeRun}
 use Rattle.machine_hub.specs.declared.view.Home.{Home}
 use Rattle.machine_hub.specs.Hub.{AreShardRuns, new_caller}
 use Rattle.otlp_front.specs.Route.{names_in}
+use Rattle.service_runtime.specs.Documents.{Reads}
+use Rattle.service_runtime.specs.Output.{Output}
 use Rattle.shard_machine.specs.MachineState.{MachineState, MachineDoes}
 use Rattle.shared_hub.specs.Logs.{CallerState, LoggedShard, AreLogged, AreOneRun, AreOneHistory}
 use Rattle.shared_hub.specs.Shards.{AreOpened}
@@ -12,9 +14,7 @@ use Rattle.tail_settings.specs.Settings.{SettingsData}
 use Rattle.trace_service.specs.Audit.{audit_text, IsFollowed}
 use Rattle.trace_service.specs.Comings.{Present, Standing, unchanged}
 use Rattle.trace_service.specs.Commands.{AreDrained, AreEmptyOn, AreReported, AreCommandsRead, AreInForce}
-use Rattle.trace_service.specs.Documents.{Reads}
 use Rattle.trace_service.specs.Jobs.{AreThreads}
-use Rattle.trace_service.specs.Output.{Output}
 
 -- What who reads the input did, by calls of one caller and in this order: all lines of the input were answered, each
 -- tenant that was present then was drained, each was seen to hold no span, and each one's report was written.

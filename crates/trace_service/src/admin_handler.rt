@@ -9,39 +9,33 @@ ghost use Rattle.drop_ledger.specs.Ledger.{ledger_of};
 ghost use Rattle.http_edge.specs.Seen.{header_of, response_of, seen};
 ghost use Rattle.http_edge.specs.declared.message.RefusalForm.TheVariants as forms;
 ghost use Rattle.machine_hub.specs.Hub.{IsRefusedOn};
+ghost use Rattle.service_runtime.specs.LastAnswers.{IsAnswered};
+ghost use Rattle.service_runtime.specs.Receiving.{IsTalk};
+ghost use Rattle.service_runtime.specs.Token.{is_let_in};
+ghost use Rattle.service_runtime.specs.declared.desk.Asked.{Asked as AskedCode};
 ghost use Rattle.trace_service.specs.Changed.{TellsAdding};
-ghost use Rattle.trace_service.specs.LastAnswers.{IsAnswered};
-ghost use Rattle.trace_service.specs.Receiving.{IsTalk};
 ghost use Rattle.trace_service.specs.Roster.{entry_of};
 ghost use Rattle.trace_service.specs.Shown.{AreFigures, AreLooked, IsKnown, IsLooked, IsNobody, IsOfService, IsSeen, IsShown, OnlyLooks, LooksMore, OnlyLooksIf, ShowsMetrics, ShowsReply, ShowsTenant, ShowsTenants, Tells, TellsGoing, TellsReadiness, admin_of, drained_reply, is_for_figures, may_look, page_reply, refused_reply, told_of, usage_shown};
-ghost use Rattle.trace_service.specs.Token.{bearer, is_change, is_for_all, is_from_page, is_let_in, is_wanted, token_of, without_spaces};
-ghost use Rattle.trace_service.specs.declared.desk.Asked.{Asked as AskedCode};
 
-use crate::admin_port::AdminPort;
-use crate::beat::Signals;
 use crate::changes::{added, retired};
 use crate::context::WorkerContext;
-use crate::entrance::Entrance;
-use crate::lingering::linger;
-use crate::memory::resident_bytes;
 use crate::naming::Naming;
-use crate::notice::{notice, other_method, shown, unknown};
 use crate::post::without_memory;
 use crate::roster::Present;
 use crate::shared::ServiceLimits;
-use crate::visit::{Client, Visit};
 use admin_page::PAGE;
 use admin_pages::{
     AdminRoute, LastAnswer, ServiceFigures, TenantFigures, TenantUsage, admin_route, put_service,
-    put_settled_tenant, put_tenant_metrics, put_tenants, read_report, same_token,
+    put_settled_tenant, put_tenant_metrics, put_tenants, read_report,
 };
 use export_edge::Beat;
-use http_edge::{
-    EdgeFault, Handler, Header, HttpMessage, MediaType, RefusalForm, Reply, only_value, serve,
-};
+use http_edge::{EdgeFault, Handler, Header, HttpMessage, MediaType, RefusalForm, Reply, serve};
 use http_line::StreamLine;
-use http1::text::eq_ignore_case;
 use otlp_front::path;
+use service_runtime::notices::{notice, other_method, shown, unknown};
+use service_runtime::{
+    AdminPort, Client, Entrance, Signals, Visit, is_let_in, linger, resident_bytes,
+};
 use shared_hub::HubFault;
 use std::alloc::{AllocError, Global};
 use std::str;
@@ -171,10 +165,7 @@ impl<'c, 'h, J: Naming, R: Wait + Clock> AdminHandler<'c, 'h, J, R> {
         ensures { result ≡ is_let_in (option_copied self.now.port.now.token)
             (map header_of headers.now) (route_view asked.now) }
     {
-        match self.port.token {
-            Some(wanted) => is_for_all(asked) || is_wanted(wanted, token_in(headers)),
-            None => !(is_change(asked) && is_from_page(headers)),
-        }
+        is_let_in(self.port.token, headers, asked)
     }
 
     /// What is asked for, of who is let in. A tenant that is to come has this document.
@@ -586,74 +577,4 @@ fn not_let_in(alloc: Global, wanted: Option<&[u8]>) -> Result<Reply, AllocError>
             "a change from a page needs a token, and none is configured",
         ),
     }
-}
-
-/// Whether it is shown to whoever reaches the address: it tells nothing of any tenant.
-fn is_for_all(asked: &AdminRoute<'_>) -> bool
-    ensures { result ≡ is_for_all (route_view asked.now) }
-{
-    matches!(
-        asked,
-        AdminRoute::Page | AdminRoute::Health | AdminRoute::Readiness
-    )
-}
-
-/// Whether a change is asked for: that the service ends, or that a tenant comes or goes.
-fn is_change(asked: &AdminRoute<'_>) -> bool
-    ensures { result ≡ is_change (route_view asked.now) }
-{
-    matches!(
-        asked,
-        AdminRoute::Drain | AdminRoute::Add | AdminRoute::Retire(_)
-    )
-}
-
-/// Whether a page that a browser shows asks. It may be any site's: a form posts wherever it likes.
-fn is_from_page(headers: &[Header]) -> bool
-    ensures { result ≡ is_from_page (map header_of headers.now) }
-{
-    headers
-        .iter()
-        .any(|header| eq_ignore_case(&header.name, b"origin"))
-}
-
-/// Whether this token is the one that is wanted.
-fn is_wanted(wanted: &[u8], given: Option<&[u8]>) -> bool
-    ensures { result ≡ is_wanted wanted.now (option_copied given.entry) }
-{
-    match given {
-        Some(given) => same_token(wanted, given),
-        None => false,
-    }
-}
-
-/// The token of a message, if it has one.
-fn token_in(headers: &[Header]) -> Option<&[u8]>
-    ensures { option_copied result ≡ token_of (map header_of headers.now) }
-{
-    bearer(only_value(headers, b"authorization")?)
-}
-
-/// The token of credentials, if their scheme is the one for tokens.
-fn bearer(credentials: &[u8]) -> Option<&[u8]>
-    ensures { option_copied result ≡ bearer credentials.now }
-{
-    if credentials.len() >= 7 && eq_ignore_case(&credentials[..7], b"bearer ") {
-        Some(without_spaces(&credentials[7..]))
-    } else {
-        None
-    }
-}
-
-/// What stands behind the spaces at its front.
-fn without_spaces(mut text: &[u8]) -> &[u8]
-    ensures { result.now ≡ without_spaces text.entry.now }
-{
-    while let [first, rest @ ..] = text {
-        if *first != b' ' {
-            return text;
-        }
-        text = rest;
-    }
-    text
 }

@@ -1,11 +1,11 @@
 //! The work of all threads, and of who directs it beside.
 
 ghost use Rattle.std.specs.Prelude.{List, ℕ, Option, IfOk};
-ghost use Rattle.trace_service.specs.Output.{Output};
+ghost use Rattle.service_runtime.specs.Output.{Output};
 
-use crate::course::Observer;
 use crate::service::ServiceFault;
 use crate::start::Console;
+use service_runtime::Observer;
 use std::io::{BufRead, Write};
 use std::thread::{Threads, join_mut};
 

@@ -3,14 +3,14 @@
 ghost use Rattle.std.specs.Prelude.{◌≡◌, ◌≢◌, ◌↔◌, ◌++◌, ℕ, List, [], None, IsTrue, IfOk, IfSome, codes, option_copied, option_map, string_bytes};
 ghost use Rattle.drop_ledger.specs.Ledger.{LedgerData, LedgerInvariant, ledger_of};
 ghost use Rattle.http_edge.specs.Seen.{response_of};
+ghost use Rattle.service_runtime.specs.Notice.{notice_of};
 ghost use Rattle.trace_service.specs.Changed.{HasWarnings, SaysCame, TellsAdded, TellsAdding, TellsCome, TellsFaulty, TellsRefused, TellsRetired, TellsRetiring, busy_reply, going_text, last_line, refused_otherwise, refused_reply, untold_reply, went_reply};
-ghost use Rattle.trace_service.specs.Notice.{notice_of};
 
-use crate::desk::Asked;
-use crate::notice::{came, notice, shown, unknown};
 use crate::post::without_memory;
 use admin_pages::{TenantFigures, TenantUsage, put_gone, read_report};
 use http_edge::{MediaType, Reply};
+use service_runtime::Asked;
+use service_runtime::notices::{came, notice, shown, unknown};
 use settings_check::{Report, check};
 use std::alloc::{AllocError, Global};
 use std::str;

@@ -13,13 +13,13 @@ ghost use Rattle.trace_service.specs.declared.comings.NotAdded.TheVariants as wh
 
 use crate::chore::Chore;
 use crate::control::Control;
-use crate::documents::Documents;
 use crate::in_force::Newcomer;
 use crate::naming::Naming;
 use crate::registrar::Registrar;
-use crate::reports::{CommandReply, write_text};
+use crate::reports::CommandReply;
 use crate::roster::Roster;
 use export_edge::Beat;
+use service_runtime::{Documents, write_text};
 use shared_hub::HubFault;
 use std::alloc::AllocError;
 use std::io::{ErrorKind, Write};

@@ -4,19 +4,17 @@ ghost use Rattle.std.specs.Prelude.{◌≡◌, ◌<◌, ◌≤◌, length, IfOk}
 ghost use Rattle.machine_hub.specs.Hub.{slots_of};
 ghost use Rattle.trace_service.specs.Work.{turned_of};
 
-use crate::beat::{ServiceBeat, Signals};
-use crate::body_memory::BodyClaim;
 use crate::in_force::{Destination, InForce};
 use crate::naming::Naming;
 use crate::post::{is_without_memory, post_body, refused, without_memory};
 use crate::roster::Present;
-use crate::teller::Teller;
 use bytes::Bytes;
 use export_edge::{AnswerRefused, AnswerSink, Beat, JobSource, TurnResult};
 use http_edge::{Handler, HttpMessage, RefusalForm, Reply};
 use job_lane::Job;
 use otlp_front::RouteRefusal;
 use send_retry::Answer;
+use service_runtime::{BodyClaim, ServiceBeat, Signals, Teller};
 use shared_hub::{Caller, HubFault, SharedHub};
 use std::alloc::{AllocError, Global};
 use std::marker::PhantomData;

@@ -7,21 +7,18 @@ ghost use Rattle.trace_service.specs.Commands.{AreDrained, AreEmptyOn, AreReport
 ghost use Rattle.trace_service.specs.Roster.{entry_of, present_in};
 ghost use Rattle.trace_service.specs.CommandReply.{reply_text};
 
-use crate::beat::ServiceBeat;
 use crate::beside::Director;
 use crate::chore::Chore;
 use crate::context::WorkerContext;
-use crate::course::{Observer, Stage};
-use crate::documents::Documents;
-use crate::entrance::wake_at_last;
-use crate::input::{Line, next_line};
 use crate::naming::Naming;
 use crate::registrar::Registrar;
-use crate::reports::{CommandReply, line_of, write_text};
+use crate::reports::{CommandReply, line_of};
 use crate::roster::{Present, Roster};
 use crate::service::ServiceFault;
-use crate::workers::all_arrive;
 use export_edge::Beat;
+use service_runtime::{
+    Documents, Line, Observer, ServiceBeat, Stage, all_arrive, next_line, wake_at_last, write_text,
+};
 use std::alloc::{AllocError, Global};
 use std::io::{BufRead, Write};
 use std::mem;

@@ -6,17 +6,15 @@
 //! makes turns of one shard, takes answers and handles messages; what its calls did to the hub its caller knows, and no
 //! shard is locked while bytes are read, bodies are read, notes are made or payloads are sent.
 //!
-//! It stands on `shared_hub` for the shards, on `export_edge` and `job_lane` for jobs, on `http_edge`, `otlp_front` and
-//! `otlp_prepare` for bodies, on `http_line` for connections, on `tail_settings` for what it serves under, on
-//! `agreed_list` for what is known of its changes, on `settings_check` for what is told of a document, on
-//! `admin_pages` and `admin_page` for what its admin port shows, and on `replay_script` for how a report is spelled.
-//! How it starts and ends is this project's own.
+//! It stands on `shared_hub` for the shards, on `service_runtime` for what threads work with beside these, on
+//! `export_edge` and `job_lane` for jobs, on `http_edge`, `otlp_front` and `otlp_prepare` for bodies, on `http_line`
+//! for connections, on `tail_settings` for what it serves under, on `agreed_list` for what is known of its changes, on
+//! `settings_check` for what is told of a document, on `admin_pages` and `admin_page` for what its admin port shows,
+//! and on `replay_script` for how a report is spelled. How it starts and ends is this project's own.
 #![tactic(auto)]
 
-ghost use Rattle.trace_service.specs.BodyMemory.{CountsCoverBodies};
 ghost use Rattle.trace_service.specs.Commands.{TenantsAreInForce};
 ghost use Rattle.trace_service.specs.Jobs.{PoppedWereGiven};
-ghost use Rattle.trace_service.specs.LastAnswers.{AreToldAsNoted, IsNothingTold};
 ghost use Rattle.trace_service.specs.Post.{StatusesAgree};
 ghost use Rattle.trace_service.specs.Retried.{RetryDoubtsHold, RetriesAreMade};
 ghost use Rattle.std.specs.Prelude.{◌≡◌, ℕ, List, Some, true};
@@ -26,59 +24,32 @@ ghost use Rattle.replay_script.specs.Word.{most_body_bytes, is_name as is_name_i
 ghost use Rattle.tail_settings.specs.Texts.{is_address, is_name};
 
 mod admin_handler;
-mod admin_port;
 mod assignment;
-mod beat;
 mod beside;
-mod body_memory;
 mod changes;
 mod chore;
 mod comings;
 mod context;
 mod control;
-mod counted;
-mod course;
-mod desk;
-mod documents;
-mod entrance;
-mod gates;
 mod in_force;
-mod input;
-mod large_bodies;
-mod last_answers;
-mod lingering;
-mod memory;
 mod naming;
 mod noted;
-mod notice;
 mod options;
-mod pace;
-mod patient;
 mod post;
-mod receiving;
 mod registrar;
 mod reports;
-mod reserve;
-mod rest;
 mod roster;
 mod service;
 mod shared;
 mod start;
-mod tally;
-mod teller;
 mod told;
-mod visit;
 mod workers;
 
-pub use crate::admin_port::{ADMINS, AdminPort};
-pub use crate::course::{Observer, Stage};
-pub use crate::desk::{AdminDesk, DeskInput, DeskOutput};
-pub use crate::documents::{DeskDocuments, Documents};
-pub use crate::gates::Gates;
 pub use crate::options::ServiceOptions;
 pub use crate::post::post_body;
 pub use crate::service::{ServiceFault, run_service};
 pub use crate::start::{Console, ServiceStart};
+use service_runtime::Documents;
 
 /// Each job that was popped from a service's lane, and so each that was sent, is one that a call of its callers gave: a
 /// law over what a service comes to.
@@ -108,12 +79,6 @@ pub fn retry_doubts_hold()
     ensures untold { RetriesAreMade }
 {}
 
-/// No body that is taken has more bytes than count for it while it is on its way: a law over the definitions of two
-/// crates.
-pub fn counts_cover_bodies()
-    ensures { CountsCoverBodies }
-{}
-
 /// Limits that stand in two crates are the same: a body that a script posts may be as long as one over HTTP, the
 /// address of a tenant's settings can be dialed, and a script can name each tenant that settings may have, and no
 /// other.
@@ -121,12 +86,4 @@ pub fn limits_agree()
     ensures bodies { max_body ≡ most_body_bytes }
     ensures addresses { (text : List ℕ) → is_address text ≡ true → as_address text ≡ Some text }
     ensures names { (text : List ℕ) → is_name text ≡ is_name_in_scripts text }
-{}
-
-/// What is told of a tenant's back end is what was noted of this tenant's answer, but that there is no room for moments
-/// behind the first two years: of an answer of another tenant, at the same place, nothing is told. A law over the
-/// definitions.
-pub fn answers_are_told_as_noted()
-    ensures noted { AreToldAsNoted }
-    ensures nothing { IsNothingTold }
 {}

@@ -7,12 +7,12 @@ ghost use Rattle.otlp_front.specs.Seen.{response_for};
 ghost use Rattle.tail_settings.specs.Section.{section_view};
 ghost use Rattle.trace_service.specs.Post.{IsPosted, MayTell, Tells, bad_request, no_memory};
 
-use crate::gates::Gates;
 use bytes::Bytes;
 use http_edge::{Allow, MediaType, Reply};
 use otlp_front::RouteRefusal;
 use otlp_prepare::{Refusal, prepare};
 use otlp_trace::write_status;
+use service_runtime::Gates;
 use shared_hub::{Caller, HubFault, SharedHub};
 use std::alloc::{AllocError, Global};
 use std::sync::Wait;

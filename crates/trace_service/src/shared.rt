@@ -3,17 +3,16 @@
 ghost use Rattle.std.specs.Prelude.{◌≡◌, ◌<◌, ◌≤◌, None, IfOk, length, unwrap_or, if◌then◌else◌};
 ghost use Rattle.machine_hub.specs.Hub.{slots_of};
 
-use crate::admin_port::{ADMINS, AdminEntrance, admin_entrance_of};
-use crate::beat::{ServiceBeat, Signals};
 use crate::context::WorkerContext;
-use crate::entrance::Entrance;
 use crate::in_force::InForce;
 use crate::naming::Naming;
 use crate::noted::ChangeList;
 use crate::options::ServiceOptions;
 use crate::start::ServiceStart;
-use crate::visit::Patience;
 use job_lane::Lane;
+use service_runtime::{
+    ADMINS, AdminEntrance, Entrance, Patience, ServiceBeat, Signals, admin_entrance_of,
+};
 use shared_hub::{Caller, SharedHub};
 use std::alloc::{AllocError, Global};
 use std::io;

@@ -1,7 +1,7 @@
 //! What a service is started with.
 
-use crate::admin_port::AdminPort;
 use crate::options::ServiceOptions;
+use service_runtime::AdminPort;
 use std::alloc::Global;
 use std::net::TcpListener;
 

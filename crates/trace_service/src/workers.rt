@@ -1,37 +1,30 @@
 //! The threads' work.
 
-ghost use Rattle.std.specs.Prelude.{◌≡◌, ◌<◌, length, All, IfSome};
+ghost use Rattle.std.specs.Prelude.{◌≡◌, length, All};
 ghost use Rattle.std.specs.Thread.{IsSync};
 ghost use Rattle.job_lane.specs.Lane.{new_seat};
 ghost use Rattle.trace_service.specs.Jobs.{IsThread};
 ghost use Rattle.trace_service.specs.Shown.{OnlyLooks};
 
 use crate::admin_handler::{AdminHandler, serve_all};
-use crate::beat::ServiceBeat;
 use crate::context::WorkerContext;
-use crate::counted::Counted;
-use crate::entrance::Entrance;
 use crate::in_force::BackEnds;
-use crate::lingering::linger;
 use crate::naming::Naming;
-use crate::patient::PatientBackEnd;
-use crate::receiving::{Reception, receive_all};
-use crate::reserve::Reserve;
 use crate::shared::Shared;
 use crate::told::ToldBackEnd;
-use crate::visit::{Client, Visit};
 use export_edge::{Beat, TcpBackEnd, run_sender, run_turner};
 use http_edge::{EdgeFault, Handler, serve};
 use http_line::StreamLine;
 use job_lane::LaneSeat;
+use service_runtime::{
+    Client, Counted, Entrance, PatientBackEnd, Reception, Reserve, Visit, all_arrive, linger,
+    receive_all,
+};
 use shared_hub::Caller;
 use std::net::{Net, TcpListener, TcpStream};
 use std::sync::Wait;
 use std::thread::{Threads, for_each_mut};
 use std::time::Clock;
-
-/// So often a thread looks in vain whether another one came.
-const MOST_LOOKS: u32 = 10;
 
 /// What a thread does.
 #[derive(Clone, Copy, PartialEq, Eq, Debug)]
@@ -226,41 +219,6 @@ where
     serve_all(shared.rt, &admin.entrance, &mut handler, buffer);
 }
 
-/// Says that this thread is there, and waits for the others. False where ten seconds pass in which none comes, or the
-/// work is over.
-pub(crate) fn all_arrive<C: Wait + Clock>(beat: &ServiceBeat<'_, C>, threads: usize) -> bool {
-    let signals = beat.signals();
-    let mut waiting = beat.of_arrival();
-    let mut here = signals.arrive(threads);
-    while here < threads {
-        match more_arrive(&mut waiting, here) {
-            Some(more) => here = more,
-            None => {
-                signals.end();
-                return false;
-            }
-        }
-    }
-    !signals.is_over()
-}
-
-/// Waits until more threads are there than so many: how many then. None where they don't come, or the work is over.
-fn more_arrive<C: Wait + Clock>(waiting: &mut ServiceBeat<'_, C>, here: usize) -> Option<usize>
-    ensures { IfSome result (λ more. here < more) }
-{
-    for _ in 0..MOST_LOOKS {
-        if waiting.is_over() {
-            return None;
-        }
-        let more = waiting.signals().here();
-        if here < more {
-            return Some(more);
-        }
-        waiting.pause();
-    }
-    None
-}
-
 impl<'h, J: Naming, R: Wait + Clock> Reception for WorkerContext<'h, J, R> {
     type Guest = Client<'h>;
 
@@ -268,7 +226,7 @@ impl<'h, J: Naming, R: Wait + Clock> Reception for WorkerContext<'h, J, R> {
 
     ghost use Rattle.std.specs.Prelude.{◌≡◌};
     ghost use Rattle.http_edge.specs.declared.message.RefusalForm.TheVariants as forms;
-    ghost use Rattle.trace_service.specs.Receiving.{IsTalk};
+    ghost use Rattle.service_runtime.specs.Receiving.{IsTalk};
 
     // What threads told one another and who comes is not known; no shard is called meanwhile.
     ghost looks = { λ old _ new. new ≡ old };

@@ -1,4 +1,4 @@
-use Rattle.std.proofs.Common.{rules, arith, ◌≡◌, ◌<◌, ◌^◌, Ok, Some, [], true, false, ℕ, List, length}
+use Rattle.std.proofs.Common.{rules, arith, ◌≡◌, ◌<◌, ◌^◌, Ok, Some, [], true, false, length}
 use Rattle.std.specs.Str.{IsUtf8}
 use Rattle.pb_wire.specs.Reading.{next_at}
 use Rattle.otlp_canonical.proofs.Inside.{holding, held_found}

@@ -1,8 +1,8 @@
 use Rattle.std.proofs.Common.{◌∙◌, ap, codes, string_bytes, subst}
 use Rattle.std.specs.Str.{trim_end}
+use Rattle.service_runtime.specs.Notice.{notice_of}
 use Rattle.settings_check.specs.Report.{IsFileReport}
 use Rattle.trace_service.specs.Changed.{TellsFaulty, by_itself, no_settings}
-use Rattle.trace_service.specs.Notice.{notice_of}
 use Rattle.trace_service.proofs.Replies.{if_told}
 use Rattle.trace_service.proofs.changes.faulty.Goals as goal
 

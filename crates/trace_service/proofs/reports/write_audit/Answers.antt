@@ -1,6 +1,6 @@
 use Rattle.std.proofs.Common.{◌∙◌, ◌++◌, sym, ap, subst}
+use Rattle.service_runtime.specs.Output.{Output, IsPut}
 use Rattle.trace_service.specs.Audit.{audit_text, IsFollowed}
-use Rattle.trace_service.specs.Output.{Output, IsPut}
 use Rattle.trace_service.proofs.reports.write_audit.Goals as goal
 
 pub returns-in_ok-put_audit : goal.returns-in_ok-put_audit

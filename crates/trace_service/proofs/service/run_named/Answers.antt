@@ -2,8 +2,8 @@ use Rattle.std.proofs.Common.{◌≡◌, ◌∙◌, ◌<◌, ℕ, is_some, sym, 
 use Rattle.job_lane.specs.Lane.{LaneName, LaneShape, SeatLists}
 use Rattle.machine_hub.specs.Hub.{new_caller}
 use Rattle.otlp_front.specs.Route.{names_in}
+use Rattle.service_runtime.specs.Output.{Output}
 use Rattle.trace_service.specs.Audit.{audit_text, IsFollowed}
-use Rattle.trace_service.specs.Output.{Output}
 use Rattle.trace_service.specs.Roster.{present_in}
 use Rattle.trace_service.proofs.Audited.{are_kept, are_numbered}
 use Rattle.trace_service.proofs.Coursed.{course_told}

@@ -1,8 +1,8 @@
 use Rattle.std.proofs.Common.{◌≡◌, true, false, option_copied, refl, rules}
 use Rattle.admin_pages.specs.Route.{route_view}
 use Rattle.http_edge.specs.Seen.{seen}
+use Rattle.service_runtime.specs.Token.{is_let_in}
 use Rattle.trace_service.specs.Shown.{admin_of, route_in}
-use Rattle.trace_service.specs.Token.{is_let_in}
 use Rattle.trace_service.proofs.Shown.{looked_so, not_looked, refused_so, shown_so}
 use Rattle.trace_service.proofs.admin_handler.AdminHandler.answer.Goals as goal
 

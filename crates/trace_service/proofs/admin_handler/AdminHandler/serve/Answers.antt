@@ -1,4 +1,4 @@
-use Rattle.trace_service.proofs.Talked.{talked}
+use Rattle.service_runtime.proofs.Talked.{talked}
 use Rattle.trace_service.proofs.admin_handler.AdminHandler.serve.Goals as goal
 
 pub returns-in-Err : goal.returns-in-Err

@@ -1,9 +1,9 @@
 use Rattle.std.proofs.Common.{◌≡◌, ap, codes, length, refl}
 use Rattle.admin_pages.specs.Route.{Page, Metrics, Health, Readiness, Drain, Tenants, Add, Tenant, Retire, NoSuchPath, OtherMethod, route_view}
+use Rattle.service_runtime.specs.Notice.{not_allowed, notice_of}
+use Rattle.service_runtime.specs.declared.desk.Asked.{Asked}
 use Rattle.trace_service.specs.Changed.{TellsAdding}
-use Rattle.trace_service.specs.Notice.{not_allowed, notice_of}
 use Rattle.trace_service.specs.Shown.{TellsGoing, TellsReadiness, admin_of, drained_reply, page_reply}
-use Rattle.trace_service.specs.declared.desk.Asked.{Asked}
 use Rattle.trace_service.proofs.Replies.{on_err}
 use Rattle.trace_service.proofs.Shown.{looked_at, says, shown_at}
 use Rattle.trace_service.proofs.admin_handler.AdminHandler.show.Goals as goal

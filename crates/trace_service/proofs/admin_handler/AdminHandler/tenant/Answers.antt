@@ -2,9 +2,9 @@ use Rattle.std.proofs.Common.{◌≡◌, ◌∙◌, Some, ap, length, option_map
 use Rattle.admin_pages.specs.Settings.{settled_text}
 use Rattle.drop_ledger.specs.Ledger.{ledger_of}
 use Rattle.http_edge.specs.declared.message.MediaType.TheVariants.{Json}
+use Rattle.service_runtime.specs.Notice.{reply_of, unknown_reply}
 use Rattle.tail_settings.specs.Section.{section_view}
 use Rattle.tail_settings.specs.Settings.{section_at}
-use Rattle.trace_service.specs.Notice.{reply_of, unknown_reply}
 use Rattle.trace_service.specs.Shown.{ShowsTenant, figures_with, gone, left, nobody, nothing, shown}
 use Rattle.trace_service.proofs.Replies.{if_ok, on_err}
 use Rattle.trace_service.proofs.Shown.{one_looked, one_refused}

@@ -1,7 +1,7 @@
 use Rattle.std.proofs.Common.{◌∙◌, ap, map}
 use Rattle.admin_pages.specs.Figures.{tenant_of}
 use Rattle.http_edge.specs.declared.message.MediaType.TheVariants.{Json}
-use Rattle.trace_service.specs.Notice.{reply_of}
+use Rattle.service_runtime.specs.Notice.{reply_of}
 use Rattle.trace_service.proofs.Replies.{on_err}
 use Rattle.trace_service.proofs.Shown.{all_looked}
 use Rattle.trace_service.proofs.admin_handler.AdminHandler.tenants.Goals as goal

@@ -2,8 +2,8 @@ use Rattle.std.proofs.Common.{◌≡◌, ◌&&◌, false, length, option_copied,
 use Rattle.admin_pages.specs.Route.{route_view}
 use Rattle.http_edge.specs.Message.{with_body}
 use Rattle.http_edge.specs.Seen.{seen}
+use Rattle.service_runtime.specs.Token.{is_let_in}
 use Rattle.trace_service.specs.Shown.{OnlyLooksIf, is_for_figures, not_let_in, route_in, without_memory}
-use Rattle.trace_service.specs.Token.{is_let_in}
 use Rattle.trace_service.proofs.admin_handler.AdminHandlerHandler.reply_to_head.Goals as goal
 
 pub returns-in-Ok : goal.returns-in-Ok

@@ -1,8 +1,8 @@
 use Rattle.std.proofs.Common.{◌%◌, ℕ, [], ◌∷◌, ◌++◌, length, refl, sym, ◌∙◌}
 use Rattle.export_edge.proofs.Throughs.{through_more}
 use Rattle.machine_hub.specs.Hub.{IsRefusedOn}
+use Rattle.service_runtime.proofs.Rising.{rises_more, rises_same}
 use Rattle.shared_hub.specs.Logs.{CallerState}
-use Rattle.trace_service.proofs.Rising.{rises_more, rises_same}
 use Rattle.trace_service.proofs.control.Control.make.Goals as goal
 
 pub attempts-init : goal.attempts-init

@@ -1,8 +1,8 @@
 use Rattle.std.proofs.Common.{◌≡◌, ◌%◌, ℕ, List, length}
 use Rattle.export_edge.specs.Work.{Through}
 use Rattle.machine_hub.specs.Hub.{IsRefusedOn}
+use Rattle.service_runtime.specs.Moments.{Rises}
 use Rattle.shared_hub.specs.Logs.{CallerState}
-use Rattle.trace_service.specs.Moments.{Rises}
 use Rattle.trace_service.proofs.control.Control.make.Given as goal
 
 abbrev pub invariant-attempts : goal.invariant-attempts

@@ -1,4 +1,4 @@
-use Rattle.trace_service.proofs.Talked.{talked}
+use Rattle.service_runtime.proofs.Talked.{talked}
 use Rattle.trace_service.proofs.workers.WorkerContextReception.serve.Goals as goal
 
 pub returns : goal.returns

@@ -1,0 +1,10 @@
+pub mod Moments
+pub mod Documents
+pub mod Output
+pub mod Input
+pub mod Receiving
+pub mod Token
+pub mod LastAnswers
+pub mod Notice
+pub mod Visit
+pub mod BodyMemory

@@ -1,0 +1,132 @@
+//! A client's connection, how long it may take, and how many bytes.
+
+ghost use Rattle.std.specs.Prelude.{◌≡◌, ◌+◌, ◌-◌, ◌^◌, min};
+ghost use Rattle.service_runtime.specs.Visit.{is_within};
+
+use crate::beat::Signals;
+use std::io;
+use std::io::{ErrorKind, Read, Write};
+use std::net::TcpStream;
+use std::time::{Clock, Duration, Instant};
+
+/// How long is waited for a client, and for how many bytes. None is for ever, and for any number; no limit is 0.
+#[derive(Clone, Copy, Debug)]
+pub struct Patience {
+    /// For more of what it sends, or until it takes more of a reply.
+    pub rest: Option<Duration>,
+    /// For a whole request, from its first byte on.
+    pub request: Option<Duration>,
+    /// Of a request, its head among them, and of what comes before its reply is begun.
+    pub bytes: Option<u64>,
+}
+
+/// Who came in.
+#[derive(Drop)]
+pub struct Client<'h> {
+    pub stream: TcpStream,
+    pub patience: Patience,
+    pub signals: &'h Signals,
+}
+
+/// What an answer that is no reply begins with, as the leave to send a body (RFC 9110, 15.2).
+const INTERIM: &[u8] = b"HTTP/1.1 1";
+
+/// A client's connection as it is served. What is read from a reply on, or from the start, is a request until the next
+/// reply is begun: a read of it that would end later than it may fails, and one by which it has more bytes than it may.
+/// Once the work is over the connection ends where a request would begin: so who asks again and again doesn't keep the
+/// service from ending.
+#[derive(Drop)]
+pub struct Visit<'v, R> {
+    rt: &'v R,
+    stream: &'v TcpStream,
+    patience: Patience,
+    signals: &'v Signals,
+    // Whether some of a request was read.
+    is_asked: bool,
+    // When the request began of which some was read.
+    began: Option<Instant>,
+    // Whether the last read had what was left to a request as its limit.
+    is_cut: bool,
+    // How many bytes of the request were read. At 2^64 - 1 it stays.
+    come: u64,
+}
+
+impl<'v, R: Clock> Visit<'v, R> {
+    /// That of a client of whom nothing was read.
+    pub fn new(rt: &'v R, client: &'v Client<'v>) -> Visit<'v, R> {
+        Visit {
+            rt,
+            stream: &client.stream,
+            patience: client.patience,
+            signals: client.signals,
+            is_asked: false,
+            began: None,
+            is_cut: false,
+            come: 0,
+        }
+    }
+
+    /// Bounds the next read, where requests are bounded.
+    fn limit_read(&mut self) -> io::Result<()> {
+        let Some(whole) = self.patience.request else {
+            return Ok(());
+        };
+        let Some(began) = self.began else {
+            if self.is_cut {
+                self.is_cut = false;
+                self.stream.set_read_timeout(self.patience.rest)?;
+            }
+            return Ok(());
+        };
+        let left = whole.saturating_sub(began.elapsed(self.rt)?);
+        if left.is_zero() {
+            return Err(io::Error::from(ErrorKind::TimedOut));
+        }
+        self.is_cut = true;
+        let rest = self.patience.rest.unwrap_or(left);
+        self.stream.set_read_timeout(Some(rest.min(left)))
+    }
+
+    /// Counts what a read brought. False where the request has more bytes than it may.
+    fn note_read(&mut self, count: u64) -> bool
+        ensures come { self.new.come ≡ min (self.old.come + count) (2 ^ 64 - 1) }
+        ensures within { result ≡ is_within self.new.come self.old.patience.bytes }
+    {
+        self.come = self.come.saturating_add(count);
+        match self.patience.bytes {
+            Some(most) => self.come <= most,
+            None => true,
+        }
+    }
+}
+
+impl<R: Clock> Read for Visit<'_, R> {
+    fn read(&mut self, buf: &mut [u8]) -> io::Result<usize> {
+        if !self.is_asked && self.signals.is_over() {
+            return Ok(0);
+        }
+        self.limit_read()?;
+        let count = self.stream.read(buf)?;
+        self.is_asked = true;
+        if self.began.is_none() && self.patience.request.is_some() {
+            self.began = Instant::now(self.rt).ok();
+        }
+        if !self.note_read(count as u64) {
+            return Err(io::Error::from(ErrorKind::FileTooLarge));
+        }
+        Ok(count)
+    }
+}
+
+impl<R: Clock> Write for Visit<'_, R> {
+    fn write(&mut self, buf: &[u8]) -> io::Result<usize> {
+        self.began = None;
+        self.come = 0;
+        self.is_asked = buf.starts_with(INTERIM);
+        self.stream.write(buf)
+    }
+
+    fn flush(&mut self) -> io::Result<()> {
+        self.stream.flush()
+    }
+}

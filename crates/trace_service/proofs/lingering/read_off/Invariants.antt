@@ -1,9 +1,0 @@
-use Rattle.trace_service.specs.Visit.{most_read_off}
-use Rattle.trace_service.proofs.Unread.{Leaves}
-use Rattle.trace_service.proofs.lingering.read_off.Given as goal
-
-abbrev pub invariant-loop-left : goal.invariant-loop-left
-invariant-loop-left g l = Leaves g.L.Line.gives g.L.Line.takes most_read_off l.fn.line l.line l.left
-
-abbrev pub decreases-loop-left : goal.decreases-loop-left
-decreases-loop-left g l = l.left

@@ -1,5 +1,0 @@
-use Rattle.trace_service.proofs.Put.{Front}
-use Rattle.trace_service.proofs.reports.try_write.Given as goal
-
-abbrev pub invariant-tries : goal.invariant-tries
-invariant-tries g l = Front (g.W.Write.contents l.fn.output) (g.W.Write.contents l.output) l.fn.text l.rest
