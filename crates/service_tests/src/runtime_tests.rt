@@ -1,0 +1,75 @@
+//! Lines of an input, texts that are written or lost, and who is let in at the admin port.
+
+use admin_pages::AdminRoute;
+use http_edge::Header;
+use service_runtime::{Line, is_let_in, next_line, write_text};
+use std::alloc::{AllocError, Global};
+use std::sync::Wait;
+use std::test::Fail;
+
+/// Whether the input's next line is this.
+fn is_next<R: Wait>(rt: &R, input: &mut &[u8], expected: &str) -> bool {
+    let mut line = Line::new();
+    match next_line(rt, input, &mut line) {
+        Ok(found) => found && line.as_slice() == expected.as_bytes(),
+        Err(_) => false,
+    }
+}
+
+#[test]
+fn an_input_has_a_line_before_each_line_feed_and_one_behind_the_last(rt: HostRuntime) {
+    let mut input = b"drain\n\nretire a".as_slice();
+    for expected in ["drain", "", "retire a"] {
+        assert!(rt; is_next(&rt, &mut input, expected), "{expected}");
+    }
+    assert!(rt; !is_next(&rt, &mut input, ""));
+}
+
+#[test]
+fn a_text_that_has_no_room_is_lost_and_counted(rt: HostRuntime) {
+    let mut room = [0; 5];
+    let mut output = room.as_mut_slice();
+    let mut lost = 0;
+    write_text(&mut output, b"abc", &mut lost);
+    assert_eq!(rt; lost, 0);
+    write_text(&mut output, b"def", &mut lost);
+    assert_eq!(rt; lost, 1);
+    assert!(rt; room.as_slice() == b"abcde".as_slice());
+}
+
+/// A message's only field.
+fn field(alloc: Global, name: &str, value: &str) -> Result<Header, AllocError> {
+    Ok(Header {
+        name: name.as_bytes().to_vec(alloc)?,
+        value: value.as_bytes().to_vec(alloc)?,
+    })
+}
+
+/// Whether a message with this field is let in where this token is wanted.
+fn lets_in(
+    alloc: Global,
+    wanted: Option<&[u8]>,
+    asked: &AdminRoute<'_>,
+    (name, value): (&str, &str),
+) -> Result<bool, AllocError> {
+    let headers = [field(alloc, name, value)?];
+    Ok(is_let_in(wanted, &headers, asked))
+}
+
+#[test]
+fn the_token_lets_in_and_without_one_no_page_may_change_anything(
+    rt: HostRuntime,
+) -> Result<(), Fail> {
+    let token = Some(b"a4".as_slice());
+    let bearer = ("authorization", "Bearer a4");
+    let other = ("authorization", "Bearer a5");
+    let page = ("Origin", "http://localhost");
+    let alloc = rt.alloc();
+    assert!(rt; lets_in(alloc, token, &AdminRoute::Drain, bearer)?);
+    assert!(rt; !lets_in(alloc, token, &AdminRoute::Tenants, other)?);
+    assert!(rt; lets_in(alloc, token, &AdminRoute::Health, other)?);
+    assert!(rt; lets_in(alloc, None, &AdminRoute::Drain, other)?);
+    assert!(rt; !lets_in(alloc, None, &AdminRoute::Drain, page)?);
+    assert!(rt; lets_in(alloc, None, &AdminRoute::Tenants, page)?);
+    Ok(())
+}
