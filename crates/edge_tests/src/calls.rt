@@ -10,14 +10,14 @@ use std::thread::Threads;
 
 /// A text with so many bytes in its midst.
 #[derive(Clone, Copy)]
-struct Message {
-    head: &'static [u8],
-    body: usize,
-    tail: &'static [u8],
+pub struct Message {
+    pub head: &'static [u8],
+    pub body: usize,
+    pub tail: &'static [u8],
 }
 
 /// A line that gives as much as there is room for, and whose call number `fuse` fails.
-fn line_of(alloc: Global, message: Message, fuse: u64) -> Result<MemoryLine, AllocError> {
+pub fn line_of(alloc: Global, message: Message, fuse: u64) -> Result<MemoryLine, AllocError> {
     let mut input = Vec::from_slice(alloc, message.head)?;
     input.extend_from_slice(&vec![in alloc; b'a'; message.body]?)?;
     input.extend_from_slice(message.tail)?;

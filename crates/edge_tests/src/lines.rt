@@ -1,22 +1,33 @@
 //! Lines over streams of std, and a line in memory, call by call.
 
 use http_line::{Line, MemoryLine, StreamLine};
+use std::alloc::{AllocError, Global};
 use std::collections::VecDeque;
 use std::io;
 use std::io::{ErrorKind, Read, Write};
 use std::test::Fail;
 
+/// Whether a read gives so many bytes, and the room begins with these then.
+fn reads<L: Line>(line: &mut L, room: &mut [u8], count: usize, bytes: &[u8]) -> bool {
+    line.read_some(room).ok() == Some(count) && room.starts_with(bytes)
+}
+
+/// Whether so many of these bytes are written.
+fn writes<L: Line>(line: &mut L, bytes: &[u8], count: usize) -> bool {
+    line.write_some(bytes).ok() == Some(count)
+}
+
 #[test]
 fn what_is_written_to_a_queue_is_read_from_it(rt: HostRuntime) {
     let mut line = StreamLine::new(VecDeque::new(rt.alloc()));
-    assert!(rt; line.write_some(b"abc").unwrap_or(0) == 3);
     let mut room = [0u8; 2];
-    assert!(rt; line.read_some(&mut room).unwrap_or(9) == 2);
-    assert!(rt; room == *b"ab");
-    assert!(rt; line.read_some(&mut room).unwrap_or(9) == 1);
-    assert!(rt; room == *b"cb");
-    assert!(rt; line.read_some(&mut room).unwrap_or(9) == 0);
-    assert!(rt; line.failures() == 0);
+    assert!(rt;
+        writes(&mut line, b"abc", 3)
+            && reads(&mut line, &mut room, 2, b"ab")
+            && reads(&mut line, &mut room, 1, b"cb")
+            && reads(&mut line, &mut room, 0, b"")
+            && line.failures() == 0
+    );
 }
 
 /// A stream that pauses in so many calls, with this error, before each in which it doesn't. So many of these take or
@@ -77,14 +88,16 @@ fn what_is_interrupted_is_tried_again(rt: HostRuntime) {
         fails: true,
     });
     let mut room = [0u8; 2];
-    assert!(rt; line.read_some(&mut room).unwrap_or(9) == 1);
-    assert!(rt; line.write_some(b"abc").unwrap_or(9) == 1);
-    assert!(rt; line.read_some(&mut room).unwrap_or(9) == 1);
-    assert!(rt; line.write_some(b"bc").unwrap_or(9) == 1);
-    assert!(rt; line.failures() == 0);
-    assert!(rt; line.read_some(&mut room).is_err());
-    assert!(rt; line.write_some(b"c").is_err());
-    assert!(rt; line.failures() == 2);
+    assert!(rt;
+        reads(&mut line, &mut room, 1, b"")
+            && writes(&mut line, b"abc", 1)
+            && reads(&mut line, &mut room, 1, b"")
+            && writes(&mut line, b"bc", 1)
+            && line.failures() == 0
+            && line.read_some(&mut room).is_err()
+            && line.write_some(b"c").is_err()
+            && line.failures() == 2
+    );
 }
 
 /// A socket's limits of time are told so, and then the peer has rested for long enough.
@@ -99,11 +112,13 @@ fn what_runs_into_a_limit_is_not_tried_again(rt: HostRuntime) {
             fails: true,
         });
         let mut room = [0u8; 2];
-        assert!(rt; line.read_some(&mut room).is_err());
-        assert!(rt; line.read_some(&mut room).unwrap_or(9) == 1);
-        assert!(rt; line.write_some(b"a").is_err());
-        assert!(rt; line.write_some(b"a").unwrap_or(9) == 1);
-        assert!(rt; line.failures() == 2);
+        assert!(rt;
+            line.read_some(&mut room).is_err()
+                && reads(&mut line, &mut room, 1, b"")
+                && line.write_some(b"a").is_err()
+                && writes(&mut line, b"a", 1)
+                && line.failures() == 2
+        );
     }
 }
 
@@ -117,33 +132,37 @@ fn a_stream_that_takes_no_byte_has_failed(rt: HostRuntime) {
         fails: false,
     });
     let mut room = [0u8; 2];
-    assert!(rt; line.read_some(&mut room).unwrap_or(9) == 0);
-    assert!(rt; line.failures() == 0);
-    assert!(rt; line.write_some(b"a").is_err());
-    assert!(rt; line.write_some(b"a").is_err());
-    assert!(rt; line.failures() == 2);
-    assert!(rt; line.write_some(b"").unwrap_or(9) == 0);
+    assert!(rt;
+        reads(&mut line, &mut room, 0, b"")
+            && line.failures() == 0
+            && line.write_some(b"a").is_err()
+            && line.write_some(b"a").is_err()
+            && line.failures() == 2
+            && writes(&mut line, b"", 0)
+    );
 }
 
 /// Pieces of two and three bytes and then the rest, and a fourth call that fails.
-#[test]
-fn a_line_in_memory_is_cut_and_fails_where_it_is_told(rt: HostRuntime) -> Result<(), Fail> {
-    let alloc = rt.alloc();
+fn line_in_pieces(alloc: Global) -> Result<MemoryLine, AllocError> {
     let pieces = Vec::from_slice(alloc, &[2usize, 3])?;
     let input = Vec::from_slice(alloc, b"abcdefghi")?;
-    let mut line = MemoryLine::new(input, pieces, Vec::new(alloc), 4);
+    Ok(MemoryLine::new(input, pieces, Vec::new(alloc), 4))
+}
+
+#[test]
+fn a_line_in_memory_is_cut_and_fails_where_it_is_told(rt: HostRuntime) -> Result<(), Fail> {
+    let mut line = line_in_pieces(rt.alloc())?;
     let mut room = [0u8; 9];
-    assert!(rt; line.read_some(&mut room).unwrap_or(9) == 2);
-    assert!(rt; room.starts_with(b"ab"));
-    assert!(rt; line.read_some(&mut room).unwrap_or(9) == 3);
-    assert!(rt; room.starts_with(b"cde"));
-    assert!(rt; line.write_some(b"x").unwrap_or(9) == 1);
-    assert!(rt; line.read_some(&mut room).is_err());
-    assert!(rt; line.write_some(b"y").unwrap_or(9) == 1);
-    assert!(rt; line.read_some(&mut room).unwrap_or(9) == 4);
-    assert!(rt; room.starts_with(b"fghi"));
-    assert!(rt; line.read_some(&mut room).unwrap_or(9) == 0);
-    assert!(rt; line.failures() == 1);
-    assert!(rt; line.output() == b"xy".as_slice());
+    assert!(rt;
+        reads(&mut line, &mut room, 2, b"ab")
+            && reads(&mut line, &mut room, 3, b"cde")
+            && writes(&mut line, b"x", 1)
+            && line.read_some(&mut room).is_err()
+            && writes(&mut line, b"y", 1)
+            && reads(&mut line, &mut room, 4, b"fghi")
+            && reads(&mut line, &mut room, 0, b"")
+            && line.failures() == 1
+            && line.output() == b"xy".as_slice()
+    );
     Ok(())
 }

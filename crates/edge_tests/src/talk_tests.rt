@@ -1,5 +1,6 @@
 //! Talks and connections, in each way.
 
+use crate::calls::{Message, line_of};
 use crate::connections::CONNECTIONS;
 use crate::handlers::{Echo, Front, Heedless, JsonEcho, Lacking, Measuring};
 use crate::names::NAMES;
@@ -47,8 +48,8 @@ fn echoed_in_json<R: Threads + Sync>(
     walk(rt, alloc, &mut JsonEcho, &names, JSON_TALKS, way)
 }
 
-/// How many connections to a front are as they have to be, and the first that isn't.
-fn routed<R: Threads + Sync>(
+/// How many connections to a front with these settings are as they have to be, and the first that isn't.
+fn routed_by<R: Threads + Sync>(
     rt: &R,
     alloc: Global,
     settings: &Settings,
@@ -57,6 +58,12 @@ fn routed<R: Threads + Sync>(
     let names = names_of(alloc, NAMES)?;
     let mut front = Front { alloc, settings };
     walk(rt, alloc, &mut front, &names, CONNECTIONS, way)
+}
+
+/// The same of a front with two tenants.
+fn routed<R: Threads + Sync>(rt: &R, alloc: Global, way: Way) -> Result<(u32, &'static str), Fail> {
+    let settings = load(alloc, SETTINGS)?;
+    Ok(routed_by(rt, alloc, &settings, way)?)
 }
 
 #[test]
@@ -99,22 +106,19 @@ fn refusals_in_json_with_or_without_memory(rt: HostRuntime) -> Result<(), Fail> 
 
 #[test]
 fn connections_cut_at_each_byte(rt: HostRuntime) -> Result<(), Fail> {
-    let settings = load(rt.alloc(), SETTINGS)?;
-    assert_eq!(rt; routed(&rt, rt.alloc(), &settings, Way::Cut)?, (83, ""));
+    assert_eq!(rt; routed(&rt, rt.alloc(), Way::Cut)?, (83, ""));
     Ok(())
 }
 
 #[test]
 fn connections_that_break_off(rt: HostRuntime) -> Result<(), Fail> {
-    let settings = load(rt.alloc(), SETTINGS)?;
-    assert_eq!(rt; routed(&rt, rt.alloc(), &settings, Way::Failing)?, (83, ""));
+    assert_eq!(rt; routed(&rt, rt.alloc(), Way::Failing)?, (83, ""));
     Ok(())
 }
 
 #[test]
 fn connections_with_or_without_memory(rt: HostRuntime) -> Result<(), Fail> {
-    let settings = load(rt.alloc(), SETTINGS)?;
-    assert_eq!(rt; routed(&rt, rt.alloc(), &settings, Way::Refused)?, (83, ""));
+    assert_eq!(rt; routed(&rt, rt.alloc(), Way::Refused)?, (83, ""));
     Ok(())
 }
 
@@ -165,22 +169,13 @@ fn spare_room<R: Threads + Sync>(
 #[test]
 fn bodies_have_no_room_that_they_leave_empty(rt: HostRuntime) -> Result<(), Fail> {
     let sized = b"POST / HTTP/1.1\r\nHost: c\r\nContent-Length: 4\r\n\r\nabcd";
-    assert_eq!(rt; spare_room(&rt, rt.alloc(), sized)?, Some(0));
     let chunked = b"POST / HTTP/1.1\r\nHost: c\r\nTransfer-Encoding: chunked\r\n\r\n\
 3\r\nabc\r\n1\r\nd\r\n0\r\n\r\n";
-    assert_eq!(rt; spare_room(&rt, rt.alloc(), chunked)?, Some(0));
+    assert!(rt;
+        spare_room(&rt, rt.alloc(), sized)? == Some(0)
+            && spare_room(&rt, rt.alloc(), chunked)? == Some(0)
+    );
     Ok(())
-}
-
-/// What is told of the messages in an input whose heads settle their replies.
-#[derive(Clone, Copy, Debug, Drop, PartialEq, Eq)]
-struct Outcome {
-    /// How many of them the handler was given.
-    given: u32,
-    /// Whether the connection's buffer has as much room as before.
-    is_room_kept: bool,
-    /// How many replies say that there is no such path, and nothing else is written.
-    replies: Option<usize>,
 }
 
 const NO_SUCH_PATH: &[u8] = b"HTTP/1.1 404 Not Found\r\nContent-Type: application/x-protobuf\r\n\
@@ -200,58 +195,53 @@ fn times(output: &[u8], text: &[u8]) -> Option<usize> {
     if rest.is_empty() { Some(count) } else { None }
 }
 
-/// Serves a message with so many bytes of a body between these texts.
+/// Whether of messages whose heads settle their replies the handler is given one, the connection's buffer has as much
+/// room as before, and so many replies say that there is no such path, and nothing else is written.
 fn heeded<R: Threads + Sync>(
     rt: &R,
     alloc: Global,
-    head: &[u8],
-    body: usize,
-    tail: &[u8],
-) -> Result<Option<Outcome>, AllocError> {
-    let mut input = Vec::from_slice(alloc, head)?;
-    input.extend_from_slice(&vec![in alloc; b'a'; body]?)?;
-    input.extend_from_slice(tail)?;
-    let mut line = MemoryLine::new(input, Vec::new(alloc), Vec::new(alloc), 0);
+    message: Message,
+    replies: usize,
+) -> Result<bool, AllocError> {
+    let mut line = line_of(alloc, message, 0)?;
     let mut handler = Heedless { alloc, given: 0 };
     let mut buffer = connection_buffer(alloc)?;
     let room = buffer.capacity();
-    match serve(rt, alloc, &mut line, &mut handler, &mut buffer) {
-        Ok(()) => Ok(Some(Outcome {
-            given: handler.given,
-            is_room_kept: buffer.capacity() == room,
-            replies: times(line.output(), NO_SUCH_PATH),
-        })),
-        Err(_) => Ok(None),
-    }
+    let told = serve(rt, alloc, &mut line, &mut handler, &mut buffer);
+    Ok(
+        told.is_ok()
+            && handler.given == 1
+            && buffer.capacity() == room
+            && times(line.output(), NO_SUCH_PATH) == Some(replies),
+    )
 }
 
 /// Its handler isn't given it, and nothing of it stays in the buffer. The message behind it comes whole.
 #[test]
 fn a_body_that_is_not_wanted_is_let_go_of(rt: HostRuntime) -> Result<(), Fail> {
-    let next = b"GET / HTTP/1.1\r\nHost: c\r\n\r\n";
-    let head = b"POST / HTTP/1.1\r\nHost: c\r\nContent-Length: 1048576\r\n\r\n";
-    let want = Some(Outcome {
-        given: 1,
-        is_room_kept: true,
-        replies: Some(2),
-    });
-    assert_eq!(rt; heeded(&rt, rt.alloc(), head, 1_048_576, next)?, want);
-    let head = b"POST / HTTP/1.1\r\nHost: c\r\nTransfer-Encoding: chunked\r\n\r\n100000\r\n";
-    let tail = b"\r\n0\r\n\r\nGET / HTTP/1.1\r\nHost: c\r\n\r\n";
-    assert_eq!(rt; heeded(&rt, rt.alloc(), head, 1_048_576, tail)?, want);
+    let of_a_length = Message {
+        head: b"POST / HTTP/1.1\r\nHost: c\r\nContent-Length: 1048576\r\n\r\n",
+        body: 1_048_576,
+        tail: b"GET / HTTP/1.1\r\nHost: c\r\n\r\n",
+    };
+    let chunked = Message {
+        head: b"POST / HTTP/1.1\r\nHost: c\r\nTransfer-Encoding: chunked\r\n\r\n100000\r\n",
+        body: 1_048_576,
+        tail: b"\r\n0\r\n\r\nGET / HTTP/1.1\r\nHost: c\r\n\r\n",
+    };
+    assert!(rt; heeded(&rt, rt.alloc(), of_a_length, 2)? && heeded(&rt, rt.alloc(), chunked, 2)?);
     Ok(())
 }
 
 /// There is nothing to let go of where a body came whole with its head.
 #[test]
 fn a_body_that_came_with_its_head_is_given(rt: HostRuntime) -> Result<(), Fail> {
-    let head = b"POST / HTTP/1.1\r\nHost: c\r\nContent-Length: 9\r\n\r\n";
-    let want = Some(Outcome {
-        given: 1,
-        is_room_kept: true,
-        replies: Some(1),
-    });
-    assert_eq!(rt; heeded(&rt, rt.alloc(), head, 9, b"")?, want);
+    let message = Message {
+        head: b"POST / HTTP/1.1\r\nHost: c\r\nContent-Length: 9\r\n\r\n",
+        body: 9,
+        tail: b"",
+    };
+    assert!(rt; heeded(&rt, rt.alloc(), message, 1)?);
     Ok(())
 }
 

@@ -1,10 +1,11 @@
 //! A sender that is refused memory: the call changes nothing, and does the next time what it is to do.
 
+use crate::lines::{cut, number, words};
 use crate::retry_settings::ENDLESS;
 use bytes::Bytes;
 use send_queue::{Batch, OfferFault, SendQueue, Settled};
 use send_retry::Answer;
-use std::alloc::AllocError;
+use std::alloc::{AllocError, Global};
 use std::process::Abort;
 use std::test::Fail;
 use tail_settings::SendingQueue;
@@ -68,41 +69,81 @@ fn due_of_failed(queue: &mut SendQueue, ticket: u64) -> u64 {
     }
 }
 
-// Each run with one allocation refused has to end well, too.
-#[test]
-fn where_memory_is_refused_a_sender_stays(rt: HostRuntime) -> Result<(), Fail> {
-    let mut queue = SendQueue::new(rt.alloc(), &TWO_AT_A_TIME, &ENDLESS)?;
-    assert!(rt; is_taken_at_last(&rt, &mut queue, b"a"));
-    assert!(rt; is_taken_at_last(&rt, &mut queue, b"bb"));
-    assert!(rt; is_taken_at_last(&rt, &mut queue, b"ccc"));
-    assert!(rt; !is_taken_at_last(&rt, &mut queue, b"dddd"));
-    assert!(rt; ticket_at_last(&rt, &mut queue, 1000)? == 1);
-    assert!(rt; ticket_at_last(&rt, &mut queue, 1000)? == 2);
-    assert!(rt; due_of_failed(&mut queue, 2) == 3500 && due_of_failed(&mut queue, 1) == 3500);
-    assert!(rt; ticket_at_last(&rt, &mut queue, 3500)? == 3);
-    assert!(rt; ticket_at_last(&rt, &mut queue, 3500)? == 4);
-    assert!(rt; ticket_at_last(&rt, &mut queue, 3500)? == 0 && queue.leaving(3500) == 0);
-    Ok(())
-}
-
-// What a step offered before it was refused memory leaves again, the latest first.
-#[test]
-fn a_step_that_is_refused_memory_takes_back_its_batches(rt: HostRuntime) -> Result<(), Fail> {
-    let mut queue = SendQueue::new(rt.alloc(), &TWO_AT_A_TIME, &ENDLESS)?;
-    assert!(rt; is_taken_at_last(&rt, &mut queue, b"a"));
-    let before = seen(&queue);
-    assert!(rt; is_taken_at_last(&rt, &mut queue, b"bb"));
-    assert!(rt; is_taken_at_last(&rt, &mut queue, b"ccc"));
-    assert!(rt; spans_taken_back(&mut queue) == 3 && spans_taken_back(&mut queue) == 2);
-    assert!(rt; seen(&queue) == before && ticket_at_last(&rt, &mut queue, 1000)? == 1);
-    assert!(rt; queue.ready() == None && !queue.is_empty());
-    Ok(())
-}
-
 /// How many spans the batch has that was offered last, 0 where none waits.
 fn spans_taken_back(queue: &mut SendQueue) -> u64 {
     match queue.undo_offer() {
         Some(batch) => batch.spans,
         None => 0,
     }
+}
+
+/// What a call gives: a ticket, a moment or a count of spans, 0 for none; or whether it is so, 0 or 1.
+fn given(rt: &impl Abort, queue: &mut SendQueue, asked: &'static str) -> Result<u64, AllocError> {
+    let [call, argument, _, _, _, _, _] = words(asked);
+    match call {
+        "offer" => Ok(u64::from(is_taken_at_last(rt, queue, argument.as_bytes()))),
+        "back" => Ok(spans_taken_back(queue)),
+        "job" => ticket_at_last(rt, queue, number(argument)),
+        "failed" => Ok(due_of_failed(queue, number(argument))),
+        "leaving" => Ok(queue.leaving(number(argument))),
+        "ready" => Ok(queue.ready().unwrap_or(0)),
+        _ => Ok(u64::from(queue.is_empty())),
+    }
+}
+
+/// Tells a story of calls and of what they give to a sender.
+fn tell_to(rt: &impl Abort, queue: &mut SendQueue, story: &'static str) -> Result<(), AllocError> {
+    for line in story.lines() {
+        let (asked, wanted) = cut(line, " = ");
+        assert!(rt; given(rt, queue, asked)? == number(wanted), "at {line}");
+    }
+    Ok(())
+}
+
+/// The same of a new sender.
+fn tell(rt: &impl Abort, alloc: Global, story: &'static str) -> Result<(), Fail> {
+    let mut queue = SendQueue::new(alloc, &TWO_AT_A_TIME, &ENDLESS)?;
+    Ok(tell_to(rt, &mut queue, story)?)
+}
+
+/// Two of three batches are sent, fail, and are sent again.
+const STORY: &str = "\
+offer a = 1
+offer bb = 1
+offer ccc = 1
+offer dddd = 0
+job 1000 = 1
+job 1000 = 2
+failed 2 = 3500
+failed 1 = 3500
+job 3500 = 3
+job 3500 = 4
+job 3500 = 0
+leaving 3500 = 0";
+
+// Each run with one allocation refused has to end well, too.
+#[test]
+fn where_memory_is_refused_a_sender_stays(rt: HostRuntime) -> Result<(), Fail> {
+    tell(&rt, rt.alloc(), STORY)
+}
+
+/// What a step offered before it was refused memory leaves again, the latest first.
+const TAKEN_BACK: &str = "\
+offer a = 1
+ready = 1000
+leaving 9000 = 1
+offer bb = 1
+offer ccc = 1
+back = 3
+back = 2
+ready = 1000
+leaving 9000 = 1
+is-empty = 0
+job 1000 = 1
+ready = 0
+is-empty = 0";
+
+#[test]
+fn a_step_that_is_refused_memory_takes_back_its_batches(rt: HostRuntime) -> Result<(), Fail> {
+    tell(&rt, rt.alloc(), TAKEN_BACK)
 }

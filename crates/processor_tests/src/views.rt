@@ -3,7 +3,9 @@
 ghost use Rattle.processor_tests.specs.Views.{Told, CanonicalTexts};
 
 use otlp_trace::DoubleBits;
-use span_view::{SpanField, SpanRef, ValueRef, canonical_text_is_viewed, equal_values, is_text};
+use span_view::{
+    SpanField, SpanFields, SpanRef, ValueRef, canonical_text_is_viewed, equal_values, is_text,
+};
 use std::alloc::{AllocError, Global};
 use std::process::Abort;
 use std::test::Fail;
@@ -165,46 +167,67 @@ fn what_tells_nothing_is_passed_over(rt: HostRuntime) {
     assert!(rt; tells(&rt, b"\x0a\x01\x01\x00\x12\x01\x03", b"\x01", 0));
 }
 
-/// Whether a span has these times, by one call for each, by one for both, and by one for both and the status.
-fn has_times(rt: &impl Abort, span: &[u8], start: u64, end: u64) -> bool {
-    let view = checked(rt, span, b"");
-    let (first, last, _status) = view.times_and_status();
-    (view.start(), view.end()) == (start, end)
-        && view.times() == (start, end)
-        && (first, last) == (start, end)
-}
+/// A start of 5, an end of 6, and an error.
+const START: &[u8] = b"\x39\x05\x00\x00\x00\x00\x00\x00\x00";
 
-/// A span of fields by their tags, each with eight bytes of a number below 256.
-fn timed(alloc: Global, fields: &[(u8, u8)]) -> Result<Vec<u8>, AllocError> {
+const END: &[u8] = b"\x41\x06\x00\x00\x00\x00\x00\x00\x00";
+
+const ERROR: &[u8] = b"\x7a\x02\x18\x02";
+
+/// A span of these pieces of text.
+fn joined(alloc: Global, pieces: &[&[u8]]) -> Result<Vec<u8>, AllocError> {
     let mut span = Vec::new(alloc);
-    for (tag, number) in fields {
-        span.extend_from_slice(&[*tag, *number, 0, 0, 0, 0, 0, 0, 0])?;
+    for piece in pieces {
+        span.extend_from_slice(piece)?;
     }
     Ok(span)
 }
 
-/// Tags and numbers, and the start and the end that they tell: the first of several, wherever it stands.
-const TIMES: [(&[(u8, u8)], u64, u64); 8] = [
+/// Whether a span tells these times and this status, by one call for each, by one for both times, and by one for all.
+fn tells_each(rt: &impl Abort, span: &[u8], start: u64, end: u64, status: i32) -> bool {
+    let view = checked(rt, span, b"");
+    (view.start(), view.end()) == (start, end)
+        && view.times() == (start, end)
+        && view.times_and_status() == (start, end, status)
+        && view.status() == status
+}
+
+/// The same of a span of these pieces.
+fn pieces_tell(
+    rt: &impl Abort,
+    alloc: Global,
+    pieces: &[&[u8]],
+    start: u64,
+    end: u64,
+    status: i32,
+) -> Result<bool, AllocError> {
+    let span = joined(alloc, pieces)?;
+    Ok(tells_each(rt, &span, start, end, status))
+}
+
+/// Pieces, and the start and the end that they tell: the first of several, wherever it stands.
+const TIMES: [(&[&[u8]], u64, u64); 10] = [
     (&[], 0, 0),
-    (&[(0x39, 5)], 5, 0),
-    (&[(0x41, 6)], 0, 6),
-    (&[(0x39, 5), (0x41, 6)], 5, 6),
-    (&[(0x41, 6), (0x39, 5)], 5, 6),
-    (&[(0x41, 6), (0x39, 5), (0x41, 9)], 5, 6),
-    (&[(0x39, 5), (0x39, 7), (0x41, 6)], 5, 6),
-    // A field of eight bytes that no span knows.
-    (&[(0x39, 5), (0x49, 1), (0x41, 6)], 5, 6),
+    (&[START], 5, 0),
+    (&[END], 0, 6),
+    (&[START, END], 5, 6),
+    (&[END, START], 5, 6),
+    (&[END, START, b"\x41\x09\x00\x00\x00\x00\x00\x00\x00"], 5, 6),
+    (&[START, b"\x39\x07\x00\x00\x00\x00\x00\x00\x00", END], 5, 6),
+    // A field of eight bytes that no span knows, a varint of the start's number, and an end that is cut short.
+    (&[START, b"\x49\x01\x00\x00\x00\x00\x00\x00\x00", END], 5, 6),
+    (&[b"\x38\x63", START], 5, 0),
+    (&[START, b"\x41\x06"], 5, 0),
 ];
 
 #[test]
 fn times_are_told_together(rt: HostRuntime) -> Result<(), Fail> {
-    for (fields, start, end) in TIMES {
-        let span = timed(rt.alloc(), fields)?;
-        assert!(rt; has_times(&rt, &span, start, end), "{start} {end}");
+    for (pieces, start, end) in TIMES {
+        assert!(rt;
+            pieces_tell(&rt, rt.alloc(), pieces, start, end, 0)?,
+            "{start} {end}"
+        );
     }
-    // A varint of the start's number, and an end that is cut short.
-    assert!(rt; has_times(&rt, b"\x38\x63\x39\x05\x00\x00\x00\x00\x00\x00\x00", 5, 0));
-    assert!(rt; has_times(&rt, b"\x39\x05\x00\x00\x00\x00\x00\x00\x00\x41\x06", 5, 0));
     Ok(())
 }
 
@@ -228,19 +251,22 @@ const STATUSES: [(&[u8], &[u8], &[u8], i32); 11] = [
 #[test]
 fn times_and_status_are_told_together(rt: HostRuntime) -> Result<(), Fail> {
     for (before, between, behind, status) in STATUSES {
-        let mut span = Vec::new(rt.alloc());
-        span.extend_from_slice(before)?;
-        span.extend_from_slice(b"\x39\x05\x00\x00\x00\x00\x00\x00\x00")?;
-        span.extend_from_slice(between)?;
-        span.extend_from_slice(b"\x41\x06\x00\x00\x00\x00\x00\x00\x00")?;
-        span.extend_from_slice(behind)?;
-        let view = checked(&rt, &span, b"");
+        let pieces = [before, START, between, END, behind];
         assert!(rt;
-            view.times_and_status() == (5, 6, status) && view.status() == status,
+            pieces_tell(&rt, rt.alloc(), &pieces, 5, 6, status)?,
             "{status}"
         );
     }
     Ok(())
+}
+
+/// A span with so many letters, at most 128, behind a front, and then a start of 5, an end of 6 and an error.
+fn lettered(alloc: Global, front: &[u8], count: usize) -> Result<Vec<u8>, AllocError> {
+    let letters = [b'a'; 128];
+    joined(
+        alloc,
+        &[front, &letters[..count.min(128)], START, END, ERROR],
+    )
 }
 
 /// What stands before a key of so many bytes in a span's attribute: an attribute of 127 bytes and one of 128, and then
@@ -252,83 +278,88 @@ const HEADS: [(&[u8], usize); 4] = [
     (b"\x4a\x83\x01\x0a\x80\x01", 128),
 ];
 
-/// A span that has an attribute with so long a key, and then lasts from 5 to 6 and has an error.
-fn keyed(alloc: Global, head: &[u8], count: usize) -> Result<Vec<u8>, AllocError> {
-    let mut span = Vec::new(alloc);
-    span.extend_from_slice(head)?;
-    for _ in 0..count {
-        span.push(b'a')?;
+/// Whether the first attribute has a key of so many bytes, and is the first field.
+fn has_key(view: &SpanRef<'_>, count: usize) -> bool {
+    match view.attributes().next() {
+        Some((key, _value)) => {
+            key.len() == count && tells_attribute(view.fields().next(), key, ValueRef::Unset)
+        }
+        None => false,
     }
-    let times = timed(alloc, &[(0x39, 5), (0x41, 6)])?;
-    span.extend_from_slice(&times)?;
-    span.extend_from_slice(b"\x7a\x02\x18\x02")?;
-    Ok(span)
+}
+
+/// Whether a span has such a key, and what stands behind it.
+fn is_keyed(rt: &impl Abort, alloc: Global, head: &[u8], count: usize) -> Result<bool, AllocError> {
+    let span = lettered(alloc, head, count)?;
+    Ok(tells_each(rt, &span, 5, 6, 2) && has_key(&checked(rt, &span, b""), count))
 }
 
 #[test]
 fn short_and_long_keys_are_told_alike(rt: HostRuntime) -> Result<(), Fail> {
     for (head, count) in HEADS {
-        let span = keyed(rt.alloc(), head, count)?;
-        assert!(rt; has_times(&rt, &span, 5, 6), "at {count}");
-        let view = checked(&rt, &span, b"");
-        let (key, _value) = view.attributes().next().ok_or("no attribute")?;
-        assert!(rt; view.status() == 2 && key.len() == count, "at {count}");
-        assert!(rt; view.times_and_status() == (5, 6, 2), "at {count}");
-        assert!(rt;
-            tells_attribute(view.fields().next(), key, ValueRef::Unset),
-            "at {count}"
-        );
+        assert!(rt; is_keyed(&rt, rt.alloc(), head, count)?, "at {count}");
     }
     Ok(())
 }
 
-/// What stands before a start of 5 and an end of 6: what does so in canonical text, and other fields and orders.
-const FRONTS: [&[u8]; 9] = [
-    b"\x0a\x01\x01\x12\x01\x02\x1a\x01s\x22\x01\x03\x2a\x01n\x30\x02",
-    b"\x0a\x00\x12\x00\x2a\x00\x30\x00",
-    b"\x0a\x01\x01\x30\x7f",
+/// What stands before a start of 5, an end of 6 and an error: what does so in canonical text, and other fields and
+/// orders. Some end with so many letters.
+const FRONTS: [(&[u8], usize); 11] = [
+    (
+        b"\x0a\x01\x01\x12\x01\x02\x1a\x01s\x22\x01\x03\x2a\x01n\x30\x02",
+        0,
+    ),
+    (b"\x0a\x00\x12\x00\x2a\x00\x30\x00", 0),
+    (b"\x0a\x01\x01\x30\x7f", 0),
     // A kind of two bytes, and one that holds bytes.
-    b"\x0a\x01\x01\x30\x80\x01",
-    b"\x0a\x01\x01\x32\x01\x39",
+    (b"\x0a\x01\x01\x30\x80\x01", 0),
+    (b"\x0a\x01\x01\x32\x01\x39", 0),
     // Two trace ids, a name before them, and a number of one byte in a name's place.
-    b"\x0a\x01\x01\x0a\x01\x02",
-    b"\x2a\x01n\x0a\x01\x01",
-    b"\x0a\x01\x01\x28\x39",
+    (b"\x0a\x01\x01\x0a\x01\x02", 0),
+    (b"\x2a\x01n\x0a\x01\x01", 0),
+    (b"\x0a\x01\x01\x28\x39", 0),
     // The flags.
-    b"\x85\x01\x01\x00\x00\x00",
+    (b"\x85\x01\x01\x00\x00\x00", 0),
+    // Names of 127 and of 128 bytes.
+    (b"\x2a\x7f", 127),
+    (b"\x2a\x80\x01", 128),
 ];
 
-/// Whether a view has these times and an error, by calls for some of them, and field by field.
+/// Whether a view has these times and an error, field by field.
 fn has_times_and_error(view: &SpanRef<'_>, start: u64, end: u64) -> bool {
     let mut fields = view.fields();
-    let first = matches!(fields.next(), Some(SpanField::Start(time)) if time == start);
-    let second = matches!(fields.next(), Some(SpanField::End(time)) if time == end);
-    let third = matches!(fields.next(), Some(SpanField::Status(2)));
-    view.times_and_status() == (start, end, 2) && first && second && third
+    matches!(fields.next(), Some(SpanField::Start(time)) if time == start)
+        && matches!(fields.next(), Some(SpanField::End(time)) if time == end)
+        && matches!(fields.next(), Some(SpanField::Status(2)))
+}
+
+/// Whether a front and letters are passed over.
+fn is_passed_over(
+    rt: &impl Abort,
+    alloc: Global,
+    front: &[u8],
+    count: usize,
+) -> Result<bool, AllocError> {
+    let span = lettered(alloc, front, count)?;
+    Ok(tells_each(rt, &span, 5, 6, 2) && has_times_and_error(&checked(rt, &span, b""), 5, 6))
+}
+
+/// Whether nothing is told behind a name that is cut short, behind which no field begins.
+fn tells_nothing_behind(rt: &impl Abort, alloc: Global, name: &[u8]) -> Result<bool, AllocError> {
+    let span = lettered(alloc, name, 0)?;
+    Ok(tells_each(rt, &span, 0, 0, 0) && checked(rt, &span, b"").fields().next().is_none())
 }
 
 #[test]
 fn what_stands_before_the_times_is_passed_over(rt: HostRuntime) -> Result<(), Fail> {
-    let rest =
-        b"\x39\x05\x00\x00\x00\x00\x00\x00\x00\x41\x06\x00\x00\x00\x00\x00\x00\x00\x7a\x02\x18\x02";
-    for front in FRONTS {
-        let mut span = Vec::new(rt.alloc());
-        span.extend_from_slice(front)?;
-        span.extend_from_slice(rest)?;
-        let view = checked(&rt, &span, b"");
+    for (front, count) in FRONTS {
         let size = front.len();
-        assert!(rt; has_times(&rt, &span, 5, 6), "behind {size}");
-        assert!(rt; has_times_and_error(&view, 5, 6), "behind {size}");
+        assert!(rt;
+            is_passed_over(&rt, rt.alloc(), front, count)?,
+            "behind {size} and {count}"
+        );
     }
-    // Names of 127 and of 128 bytes, and one that is cut short, behind which no field begins.
-    for (name, count) in [(b"\x2a\x7f".as_slice(), 127), (b"\x2a\x80\x01", 128)] {
-        let span = keyed(rt.alloc(), name, count)?;
-        let view = checked(&rt, &span, b"");
-        assert!(rt; has_times_and_error(&view, 5, 6), "at {count}");
-    }
-    let cut = keyed(rt.alloc(), b"\x2a\x7f", 0)?;
-    assert!(rt; has_times(&rt, &cut, 0, 0));
-    assert!(rt; checked(&rt, &cut, b"").fields().next().is_none());
+    assert!(rt; tells_nothing_behind(&rt, rt.alloc(), b"\x2a\x7f")?);
     Ok(())
 }
 

@@ -1,94 +1,122 @@
 //! Whose turn it is, as an agenda tells it.
 
-ghost use Rattle.std.specs.Prelude.{◌≡◌, ◌<◌, ℕ, IfOk, true};
-ghost use Rattle.shard_agenda.specs.Agenda.{is_member};
-
 use shard_agenda::Agenda;
-use std::alloc::{AllocError, Global};
+use std::alloc::AllocError;
+use std::process::Abort;
 use std::test::Fail;
+
+/// What becomes of a member.
+#[derive(Clone, Copy)]
+enum Change {
+    /// It is ready at this moment, and comes where it is no member.
+    Ready(u64),
+    /// It isn't ready, and comes where it is no member.
+    Waits,
+    Goes,
+}
+
+/// A member, what becomes of it, and who goes first at a moment then.
+type Turn = (u32, Change, u64, Option<u32>);
+
+/// The least moment goes first, and at one moment the least number.
+const TWO: [Turn; 7] = [
+    (5, Change::Waits, 9, None),
+    (3, Change::Waits, 9, None),
+    (5, Change::Ready(7), 6, None),
+    (5, Change::Ready(7), 7, Some(5)),
+    (3, Change::Ready(7), 7, Some(3)),
+    (3, Change::Ready(8), 9, Some(5)),
+    (5, Change::Waits, 9, Some(3)),
+];
+
+/// Of five the higher number is ready first. Who has gone has no turn, also once it comes again.
+const FIVE: [Turn; 13] = [
+    (1, Change::Ready(5), 9, Some(1)),
+    (2, Change::Ready(4), 9, Some(2)),
+    (3, Change::Ready(3), 9, Some(3)),
+    (4, Change::Ready(2), 9, Some(4)),
+    (5, Change::Ready(1), 9, Some(5)),
+    (5, Change::Goes, 9, Some(4)),
+    (1, Change::Goes, 9, Some(4)),
+    (4, Change::Goes, 9, Some(3)),
+    (4, Change::Goes, 9, Some(3)),
+    (2, Change::Ready(1), 1, Some(2)),
+    (2, Change::Goes, 9, Some(3)),
+    (3, Change::Goes, 9, None),
+    (5, Change::Waits, 9, None),
+];
+
+/// Does to a member what becomes of it. The answer is when it is ready.
+fn apply(agenda: &mut Agenda, member: u32, change: Change) -> Result<Option<u64>, AllocError> {
+    let ready = match change {
+        Change::Ready(moment) => Some(moment),
+        Change::Waits => None,
+        Change::Goes => {
+            agenda.dismiss(member);
+            return Ok(None);
+        }
+    };
+    agenda.admit(member)?;
+    agenda.set(member, ready);
+    Ok(ready)
+}
+
+/// Takes these turns, and looks who goes first after each.
+fn take_turns(rt: &impl Abort, agenda: &mut Agenda, turns: &[Turn]) -> Result<(), AllocError> {
+    for (member, change, moment, first) in turns {
+        apply(agenda, *member, *change)?;
+        assert!(rt; agenda.first_due(*moment) == *first, "{member}");
+    }
+    Ok(())
+}
 
 #[test]
 fn the_least_moment_and_number_goes_first(rt: HostRuntime) -> Result<(), Fail> {
     let mut agenda = Agenda::new(rt.alloc());
-    agenda.admit(5)?;
-    agenda.admit(3)?;
-    assert!(rt; agenda.first_due(9) == None);
-    agenda.set(5, Some(7));
-    assert!(rt; agenda.first_due(6) == None);
-    assert!(rt; agenda.first_due(7) == Some(5));
-    agenda.set(3, Some(7));
-    assert!(rt; agenda.first_due(7) == Some(3));
-    agenda.set(3, Some(8));
-    assert!(rt; agenda.first_due(9) == Some(5));
-    agenda.set(5, None);
-    assert!(rt; agenda.first_due(9) == Some(3));
+    take_turns(&rt, &mut agenda, &TWO)?;
     Ok(())
-}
-
-/// A member, the moment at which it is ready from now on, and when the first of all is.
-type Setting = (u32, Option<u64>, Option<u64>);
-
-const SETTINGS: [Setting; 9] = [
-    (3, None, None),
-    (5, Some(7), Some(7)),
-    (3, Some(9), Some(7)),
-    (4, Some(u64::MAX), Some(7)),
-    (3, Some(0), Some(0)),
-    (3, Some(8), Some(7)),
-    (5, None, Some(8)),
-    (3, None, Some(u64::MAX)),
-    (4, None, None),
-];
-
-#[test]
-fn the_least_moment_is_next(rt: HostRuntime) -> Result<(), Fail> {
-    let mut agenda = Agenda::new(rt.alloc());
-    assert!(rt; agenda.next() == None && agenda.ready(3) == None);
-    for (tenant, ready, next) in SETTINGS {
-        agenda.admit(tenant)?;
-        agenda.set(tenant, ready);
-        assert!(rt;
-            agenda.ready(tenant) == ready && agenda.next() == next,
-            "{tenant}"
-        );
-        assert!(rt; agenda.ready(2) == None);
-    }
-    agenda.admit(4)?;
-    agenda.set(4, Some(6));
-    agenda.dismiss(4);
-    assert!(rt; agenda.next() == None && agenda.ready(4) == None);
-    Ok(())
-}
-
-/// An agenda of the tenants 1 to 5, of whom the higher number is ready first.
-fn five(alloc: Global) -> Result<Agenda, AllocError>
-    ensures { IfOk result (λ agenda. (tenant : ℕ) → 0 < tenant → tenant < 6
-        → is_member agenda tenant ≡ true) }
-{
-    let mut agenda = Agenda::new(alloc);
-    for tenant in 1..6u32 {
-        agenda.admit(tenant)?;
-        agenda.set(tenant, Some(u64::from(6 - tenant)));
-    }
-    Ok(agenda)
 }
 
 #[test]
 fn who_was_dismissed_has_no_turn(rt: HostRuntime) -> Result<(), Fail> {
-    let mut agenda = five(rt.alloc())?;
-    assert!(rt; agenda.first_due(9) == Some(5));
-    agenda.dismiss(5);
-    agenda.dismiss(1);
-    assert!(rt; agenda.first_due(9) == Some(4));
-    agenda.dismiss(4);
-    agenda.dismiss(4);
-    assert!(rt; agenda.first_due(9) == Some(3));
-    agenda.set(2, Some(1));
-    assert!(rt; agenda.first_due(1) == Some(2));
-    agenda.dismiss(2);
-    agenda.dismiss(3);
-    assert!(rt; agenda.first_due(9) == None);
-    agenda.admit(5)?;
-    assert!(rt; agenda.first_due(9) == None);
+    let mut agenda = Agenda::new(rt.alloc());
+    take_turns(&rt, &mut agenda, &FIVE)?;
+    Ok(())
+}
+
+/// A member, what becomes of it, and when the first of all is ready then.
+const NEXT: [(u32, Change, Option<u64>); 11] = [
+    (3, Change::Waits, None),
+    (5, Change::Ready(7), Some(7)),
+    (3, Change::Ready(9), Some(7)),
+    (4, Change::Ready(u64::MAX), Some(7)),
+    (3, Change::Ready(0), Some(0)),
+    (3, Change::Ready(8), Some(7)),
+    (5, Change::Waits, Some(8)),
+    (3, Change::Waits, Some(u64::MAX)),
+    (4, Change::Waits, None),
+    (4, Change::Ready(6), Some(6)),
+    (4, Change::Goes, None),
+];
+
+/// Whether a member is ready at this moment, the first of all at that one, and who is no member at none.
+fn is_next(agenda: &Agenda, member: u32, ready: Option<u64>, next: Option<u64>) -> bool {
+    agenda.ready(member) == ready && agenda.next() == next && agenda.ready(2) == None
+}
+
+/// Goes through these changes, and looks what is next after each.
+fn follow(rt: &impl Abort, agenda: &mut Agenda) -> Result<(), AllocError> {
+    for (member, change, next) in NEXT {
+        let ready = apply(agenda, member, change)?;
+        assert!(rt; is_next(agenda, member, ready, next), "{member}");
+    }
+    Ok(())
+}
+
+#[test]
+fn the_least_moment_is_next(rt: HostRuntime) -> Result<(), Fail> {
+    let mut agenda = Agenda::new(rt.alloc());
+    assert!(rt; is_next(&agenda, 3, None, None));
+    follow(&rt, &mut agenda)?;
     Ok(())
 }

@@ -4,6 +4,7 @@
 use crate::load::trace_id;
 use decision_cache::{DecisionCaches, HashKeys};
 use std::alloc::{AllocError, Global};
+use std::process::Abort;
 use std::test::Fail;
 
 /// How many calls a test makes of a full cache.
@@ -78,62 +79,64 @@ fn done(alloc: Global, size: u32, call: Call, calls: u64) -> Result<u64, AllocEr
     Ok(done)
 }
 
+/// All these calls of a full cache do what they are to do.
+fn all_are_done(
+    rt: &impl Abort,
+    alloc: Global,
+    size: u32,
+    call: Call,
+    calls: u64,
+) -> Result<(), Fail> {
+    assert!(rt; done(alloc, size, call, calls)? == calls);
+    Ok(())
+}
+
 #[test]
 fn a_thousand_ids(rt: HostRuntime) -> Result<(), Fail> {
-    assert!(rt; done(rt.alloc(), 1_000, Call::Decide, 0)? == 0);
-    Ok(())
+    all_are_done(&rt, rt.alloc(), 1_000, Call::Decide, 0)
 }
 
 #[test]
 fn a_thousand_ids_and_decisions(rt: HostRuntime) -> Result<(), Fail> {
-    assert!(rt; done(rt.alloc(), 1_000, Call::Decide, CALLS)? == CALLS);
-    Ok(())
+    all_are_done(&rt, rt.alloc(), 1_000, Call::Decide, CALLS)
 }
 
 #[test]
 fn a_thousand_ids_that_are_found(rt: HostRuntime) -> Result<(), Fail> {
-    assert!(rt; done(rt.alloc(), 1_000, Call::Find, CALLS)? == CALLS);
-    Ok(())
+    all_are_done(&rt, rt.alloc(), 1_000, Call::Find, CALLS)
 }
 
 #[test]
 fn a_thousand_ids_beside_others(rt: HostRuntime) -> Result<(), Fail> {
-    assert!(rt; done(rt.alloc(), 1_000, Call::Miss, CALLS)? == CALLS);
-    Ok(())
+    all_are_done(&rt, rt.alloc(), 1_000, Call::Miss, CALLS)
 }
 
 #[test]
 fn a_thousand_ids_that_are_followed(rt: HostRuntime) -> Result<(), Fail> {
-    assert!(rt; done(rt.alloc(), 1_000, Call::Follow, CALLS)? == CALLS);
-    Ok(())
+    all_are_done(&rt, rt.alloc(), 1_000, Call::Follow, CALLS)
 }
 
 #[test]
 fn a_million_ids(rt: HostRuntime) -> Result<(), Fail> {
-    assert!(rt; done(rt.alloc(), 1_000_000, Call::Decide, 0)? == 0);
-    Ok(())
+    all_are_done(&rt, rt.alloc(), 1_000_000, Call::Decide, 0)
 }
 
 #[test]
 fn a_million_ids_and_decisions(rt: HostRuntime) -> Result<(), Fail> {
-    assert!(rt; done(rt.alloc(), 1_000_000, Call::Decide, CALLS)? == CALLS);
-    Ok(())
+    all_are_done(&rt, rt.alloc(), 1_000_000, Call::Decide, CALLS)
 }
 
 #[test]
 fn a_million_ids_that_are_found(rt: HostRuntime) -> Result<(), Fail> {
-    assert!(rt; done(rt.alloc(), 1_000_000, Call::Find, CALLS)? == CALLS);
-    Ok(())
+    all_are_done(&rt, rt.alloc(), 1_000_000, Call::Find, CALLS)
 }
 
 #[test]
 fn a_million_ids_beside_others(rt: HostRuntime) -> Result<(), Fail> {
-    assert!(rt; done(rt.alloc(), 1_000_000, Call::Miss, CALLS)? == CALLS);
-    Ok(())
+    all_are_done(&rt, rt.alloc(), 1_000_000, Call::Miss, CALLS)
 }
 
 #[test]
 fn a_million_ids_that_are_followed(rt: HostRuntime) -> Result<(), Fail> {
-    assert!(rt; done(rt.alloc(), 1_000_000, Call::Follow, CALLS)? == CALLS);
-    Ok(())
+    all_are_done(&rt, rt.alloc(), 1_000_000, Call::Follow, CALLS)
 }

@@ -2,7 +2,7 @@
 
 use crate::story::{Step, one, small, step_of};
 use decision_cache::{DecisionCaches, HashKeys};
-use std::alloc::AllocError;
+use std::alloc::{AllocError, Global};
 use std::io;
 use std::process::Abort;
 use std::random::RandomSource;
@@ -141,23 +141,39 @@ find 8 1 = 0
 find 8 4 = 1
 find 7 3 = 2";
 
+/// Tells the story to the caches of both tenants.
+fn tell(
+    rt: &impl Abort,
+    seven: &mut DecisionCaches,
+    eight: &mut DecisionCaches,
+) -> Result<(), AllocError> {
+    for line in STORY.lines() {
+        let step = step_of(line);
+        let answer = if step.tenant == 7 {
+            given_at_last(rt, seven, &step)
+        } else {
+            given_at_last(rt, eight, &step)
+        };
+        assert!(rt; answer? == step.wanted[0], "at {line}");
+    }
+    Ok(())
+}
+
+/// The same where the second tenant's caches are new.
+fn tell_beside(
+    rt: &impl Abort,
+    alloc: Global,
+    seven: &mut DecisionCaches,
+) -> Result<(), AllocError> {
+    let mut eight = DecisionCaches::new(alloc, 0, 3, KEYS)?;
+    tell(rt, seven, &mut eight)
+}
+
 // Each run with one allocation refused has to end well, too.
 #[test]
 fn decisions_are_found_until_others_were_used_later(rt: HostRuntime) -> Result<(), Fail> {
     let mut seven = DecisionCaches::new(rt.alloc(), 2, 1, KEYS)?;
-    let mut eight = DecisionCaches::new(rt.alloc(), 0, 3, KEYS)?;
-    for line in STORY.lines() {
-        let step = step_of(line);
-        let caches = if step.tenant == 7 {
-            &mut seven
-        } else {
-            &mut eight
-        };
-        assert!(rt;
-            given_at_last(&rt, caches, &step)? == step.wanted[0],
-            "at {line}"
-        );
-    }
+    tell_beside(&rt, rt.alloc(), &mut seven)?;
     Ok(())
 }
 
@@ -274,6 +290,21 @@ fn alike(
     Ok(calls)
 }
 
+/// The same of new caches of this size.
+fn alike_of(rt: &impl Abort, alloc: Global, size: u32, calls: u32) -> Result<u32, AllocError> {
+    let mut caches = DecisionCaches::new(alloc, size, size, KEYS)?;
+    let never = BothEvents {
+        sampled: [0; 6],
+        other: [0; 6],
+    };
+    let mut plain = Plain {
+        size: size as usize,
+        kept: never,
+        shown: never,
+    };
+    alike(rt, &mut caches, &mut plain, calls)
+}
+
 /// A source that gives the bytes 1, 2, 3 and so on.
 struct Counting;
 
@@ -317,20 +348,7 @@ fn keys_of_the_system_differ(rt: HostRuntime) -> Result<(), Fail> {
 #[test]
 fn caches_have_the_ids_that_their_events_say(rt: HostRuntime) -> Result<(), Fail> {
     for size in [1_u32, 2, 3] {
-        let mut caches = DecisionCaches::new(rt.alloc(), size, size, KEYS)?;
-        let never = BothEvents {
-            sampled: [0; 6],
-            other: [0; 6],
-        };
-        let mut plain = Plain {
-            size: size as usize,
-            kept: never,
-            shown: never,
-        };
-        assert!(rt;
-            alike(&rt, &mut caches, &mut plain, 500)? == 500,
-            "with {size}"
-        );
+        assert!(rt; alike_of(&rt, rt.alloc(), size, 500)? == 500, "with {size}");
     }
     Ok(())
 }

@@ -184,39 +184,45 @@ fn passed(
     Ok(left.saturating_add(all_leave(alloc, &mut load, traces)))
 }
 
+/// So many spans pass through the stores, and all of them leave.
+fn all_pass(
+    rt: &impl Abort,
+    alloc: Global,
+    spans: u64,
+    held: u64,
+    tenants: u32,
+) -> Result<(), Fail> {
+    assert!(rt; passed(rt, alloc, spans, held, tenants)? == spans);
+    Ok(())
+}
+
 #[test]
 fn a_thousand_held_of_one_tenant(rt: HostRuntime) -> Result<(), Fail> {
-    assert!(rt; passed(&rt, rt.alloc(), SPANS, 1_000, 1)? == SPANS);
-    Ok(())
+    all_pass(&rt, rt.alloc(), SPANS, 1_000, 1)
 }
 
 #[test]
 fn a_million_held_of_one_tenant(rt: HostRuntime) -> Result<(), Fail> {
-    assert!(rt; passed(&rt, rt.alloc(), SPANS, 1_000_000, 1)? == SPANS);
-    Ok(())
+    all_pass(&rt, rt.alloc(), SPANS, 1_000_000, 1)
 }
 
 #[test]
 fn a_thousand_held_of_a_thousand_tenants(rt: HostRuntime) -> Result<(), Fail> {
-    assert!(rt; passed(&rt, rt.alloc(), SPANS, 1_000, 1_000)? == SPANS);
-    Ok(())
+    all_pass(&rt, rt.alloc(), SPANS, 1_000, 1_000)
 }
 
 #[test]
 fn a_million_held_of_a_thousand_tenants(rt: HostRuntime) -> Result<(), Fail> {
-    assert!(rt; passed(&rt, rt.alloc(), SPANS, 1_000_000, 1_000)? == SPANS);
-    Ok(())
+    all_pass(&rt, rt.alloc(), SPANS, 1_000_000, 1_000)
 }
 
 // The second million takes the room that the first one left.
 #[test]
 fn two_million_pass_a_million_held_of_one_tenant(rt: HostRuntime) -> Result<(), Fail> {
-    assert!(rt; passed(&rt, rt.alloc(), 2 * SPANS, 1_000_000, 1)? == 2 * SPANS);
-    Ok(())
+    all_pass(&rt, rt.alloc(), 2 * SPANS, 1_000_000, 1)
 }
 
 #[test]
 fn two_million_pass_a_million_held_of_a_thousand_tenants(rt: HostRuntime) -> Result<(), Fail> {
-    assert!(rt; passed(&rt, rt.alloc(), 2 * SPANS, 1_000_000, 1_000)? == 2 * SPANS);
-    Ok(())
+    all_pass(&rt, rt.alloc(), 2 * SPANS, 1_000_000, 1_000)
 }

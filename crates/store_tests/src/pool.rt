@@ -37,24 +37,39 @@ fn span(alloc: Global, owner: u32, number: u32) -> Result<StoredSpan, AllocError
     span_of(alloc, SharedKeys::of(alloc, owner, KEYS)?, number)
 }
 
+/// Whether a span is the first tenant's, with the keys and this name.
+fn has_all(span: &StoredSpan, name: &[u8]) -> bool {
+    span.owner() == 7 && span.keys() == KEYS && span.text().as_slice() == name
+}
+
 #[test]
 fn what_was_given_is_there_in_24_bytes(rt: HostRuntime) -> Result<(), Fail> {
     let span = span(rt.alloc(), 7, 1)?;
-    assert!(rt; span.owner() == 7 && span.keys() == KEYS && span.text().as_slice() == FIRST);
+    assert!(rt; has_all(&span, FIRST));
     assert!(rt; size_of::<StoredSpan>() == 24);
     Ok(())
+}
+
+/// The first span, which shares a source's keys.
+fn first_of(alloc: Global, source: &SharedKeys) -> Result<StoredSpan, AllocError> {
+    span_of(alloc, source.shared()?, 1)
+}
+
+/// Whether the keys stay with a source and the first span that shares them, and with the second once it is the last.
+fn keys_stay(alloc: Global, source: SharedKeys) -> Result<bool, AllocError> {
+    let first = first_of(alloc, &source)?;
+    let at_source = source.owner() == 7 && source.keys() == KEYS;
+    let second = span_of(alloc, source, 2)?;
+    let at_first = has_all(&first, FIRST);
+    drop(first);
+    Ok(at_source && at_first && has_all(&second, SECOND))
 }
 
 // The keys stay as long as one of those that share them does.
 #[test]
 fn spans_share_their_keys(rt: HostRuntime) -> Result<(), Fail> {
     let source = SharedKeys::of(rt.alloc(), 7, KEYS)?;
-    let first = span_of(rt.alloc(), source.shared()?, 1)?;
-    assert!(rt; source.owner() == 7 && source.keys() == KEYS);
-    let second = span_of(rt.alloc(), source, 2)?;
-    assert!(rt; first.owner() == 7 && first.keys() == KEYS && first.text().as_slice() == FIRST);
-    drop(first);
-    assert!(rt; second.owner() == 7 && second.keys() == KEYS && second.text().as_slice() == SECOND);
+    assert!(rt; keys_stay(rt.alloc(), source)?);
     Ok(())
 }
 

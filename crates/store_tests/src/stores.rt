@@ -143,17 +143,26 @@ fn given_at_last(
     given(alloc, stores, step)
 }
 
-/// Tells a story to new stores.
-fn tell(rt: &impl Abort, alloc: Global, story: &str) -> Result<(), AllocError> {
-    let mut stores = Stores::new(alloc);
+fn tell_to(
+    rt: &impl Abort,
+    alloc: Global,
+    stores: &mut Stores<u64>,
+    story: &str,
+) -> Result<(), AllocError> {
     for line in story.lines() {
         let step = step_of(line);
         assert!(rt;
-            given_at_last(rt, alloc, &mut stores, &step)? == step.wanted,
+            given_at_last(rt, alloc, stores, &step)? == step.wanted,
             "at {line}"
         );
     }
     Ok(())
+}
+
+/// Tells a story to new stores.
+fn tell(rt: &impl Abort, alloc: Global, story: &str) -> Result<(), AllocError> {
+    let mut stores = Stores::new(alloc);
+    tell_to(rt, alloc, &mut stores, story)
 }
 
 /// A call a line, with what it gives:
@@ -317,16 +326,27 @@ fn begin(alloc: Global, stores: &mut Stores<u64>) -> Result<bool, AllocError> {
     Ok(seven && eight)
 }
 
+/// Whether the spans of a post are there, with their trace's latest row.
+fn is_posted(stores: &Stores<u64>) -> bool {
+    spans(stores, 7) == [1, 0, 2, 2, 2, 3] && stores.latest_row(7, TRACE) == Some(3)
+}
+
+/// Whether a post's spans come where both tenants have a row, and leave as it is taken back. The other tenant has what
+/// it had all along.
+fn is_taken_back(alloc: Global, stores: &mut Stores<u64>) -> Result<bool, AllocError> {
+    let begun = begin(alloc, stores)?;
+    let (seven, eight) = (told(stores, 7), told(stores, 8));
+    let mut journal = Vec::new(alloc);
+    post(alloc, stores, &mut journal)?;
+    let came = is_posted(stores) && told(stores, 7) != seven && told(stores, 8) == eight;
+    stores.take_all_back(7, &mut journal);
+    let left = journal.is_empty() && told(stores, 7) == seven && told(stores, 8) == eight;
+    Ok(begun && came && left)
+}
+
 #[test]
 fn what_a_post_did_is_taken_back(rt: HostRuntime) -> Result<(), Fail> {
     let mut stores = Stores::new(rt.alloc());
-    assert!(rt; begin(rt.alloc(), &mut stores)?);
-    let before = (told(&stores, 7), told(&stores, 8));
-    let mut journal = Vec::new(rt.alloc());
-    post(rt.alloc(), &mut stores, &mut journal)?;
-    assert!(rt; spans(&stores, 7) == [1, 0, 2, 2, 2, 3] && stores.latest_row(7, TRACE) == Some(3));
-    assert!(rt; told(&stores, 7) != before.0 && told(&stores, 8) == before.1);
-    stores.take_all_back(7, &mut journal);
-    assert!(rt; journal.is_empty() && told(&stores, 7) == before.0 && told(&stores, 8) == before.1);
+    assert!(rt; is_taken_back(rt.alloc(), &mut stores)?);
     Ok(())
 }
