@@ -23,9 +23,8 @@ from serving.talk import (ERRORS, TAKEN, BackEnd, Service, body, check, head_of,
 
 ROOT = Path(__file__).resolve().parent.parent
 MOST = 2.2
-# What that thread runs and no other does.
-RECEIVER, SENDER, TURNER = ("http_edge::server::", "export_edge::sender::run_sender",
-                            "tail_policy::note::TraceNote::samples")
+# What that thread runs and no other does; a turner steps its shard, as others do, and runs nothing of theirs.
+RECEIVER, SENDER, TURNER = "http_edge::server::", "export_edge::sender::", "tenant_shard::shard::Shard::step"
 HEAD = b"POST /v1/traces HTTP/1.1\r\nHost: c\r\nX-Scope-OrgID: t0\r\nContent-Type: application/x-protobuf\r\n"
 
 
@@ -182,6 +181,11 @@ def sections_of(shape, n, exports, back_end):
             for number in range(n if shape is many_tenants else 1)]
 
 
+def runs(text, function):
+    """Whether the thread with this profile ran it."""
+    return re.search(rf"^c?fn=\(\d+\) .*{function}", text, re.MULTILINE)
+
+
 def instructions(folder, n, shape, thread, jobs, reply=None):
     """What this thread takes, or None where it isn't found or the service doesn't end as it has to."""
     out = folder / "callgrind"
@@ -196,9 +200,10 @@ def instructions(folder, n, shape, thread, jobs, reply=None):
         check("status and standard error", (status, err), (0, b""))
         check("jobs", len(back_end.posts), jobs(n))
     found = []
+    others = (RECEIVER, SENDER) if thread == TURNER else ()
     for file in folder.glob("callgrind-*"):
         text = file.read_text()
-        if re.search(rf"^c?fn=\(\d+\) .*{thread}", text, re.MULTILINE):
+        if runs(text, thread) and not any(runs(text, it) for it in others):
             found.append(int(re.search(r"^(?:totals|summary): (\d+)", text, re.MULTILINE)[1]))
         file.unlink()
     return max(found, default=None)
