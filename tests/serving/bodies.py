@@ -9,8 +9,8 @@ from contextlib import ExitStack
 from replay.make_script import piece
 from serving.loopback import HEAD, REPLY, refused
 from serving.memory import LARGEST, SHAPES, SMALL, bytes_of
-from serving.talk import (ERRORS, BackEnd, Service, body, check, head_of, in_threads, line_of, read_message, tenant,
-                          wait_for)
+from serving.talk import (ERRORS, EXPECT, GO_ON, BackEnd, Service, body, check, head_of, in_threads, line_of,
+                          read_message, tenant, wait_for)
 
 BOUND = ("--body-memory", str(LARGEST))
 # Of so many bytes a service has read most, and so their head, once they were sent: sockets take fewer.
@@ -101,6 +101,7 @@ def says(text, status):
 CHUNK = b"%x\r\n" % LARGE + bytes(LARGE) + b"\r\n"
 # Others' work may take a second of it.
 RESTS = ("--client-timeout", "5000")
+ENDED = ("--request-timeout", "5000")
 # What comes of a body that has come in part, and what ends it.
 ENDS = {
     "who hangs up": (whole(LARGE)[:-1], hang_up),
@@ -139,6 +140,20 @@ def a_resting_body(folder):
     with BackEnd() as back_end, Service(folder, [tenant("a", back_end)], *BOUND, *RESTS) as service:
         ends(service, "who rests", whole(LARGE)[:-1], rest)
         check("the end", service.end(), (0, line_of("a"), b""))
+
+
+def a_body_that_never_comes(folder):
+    """So it is where a client has leave to send its body and sends none of it for longer than a request may take: posts of
+    other tenants are taken then, though it stays."""
+    with BackEnd() as back_end, Service(folder, [tenant(name, back_end) for name in "ab"], *BOUND, *ENDED) as service:
+        with service.connect() as other, service.connect() as peer:
+            check("before it", service.post("b", unknown(LARGEST), other), DONE)
+            peer.sendall(head_of("a", LARGE, EXPECT))
+            check("it is to go on", read_message(peer.recv), GO_ON)
+            wait_for(lambda: service.post("b", unknown(LARGEST), other) == FULL, "it counts")
+            check("it is told", read_message(peer.recv), b"")
+            wait_for(lambda: service.post("b", unknown(LARGEST), other) == DONE, "it counts no more")
+        check("the end", service.end(), (0, line_of("a") + line_of("b"), b""))
 
 
 def heads_that_claim_nothing(folder):
@@ -245,5 +260,5 @@ def without_a_bound(folder):
         check("the end", service.end(), (0, line_of("a"), b""))
 
 
-TESTS = (one_at_a_time, each_end, a_resting_body, heads_that_claim_nothing, gone_meanwhile, while_it_is_made_ready,
-         many_small_ones, what_they_hold, without_a_bound)
+TESTS = (one_at_a_time, each_end, a_resting_body, a_body_that_never_comes, heads_that_claim_nothing, gone_meanwhile,
+         while_it_is_made_ready, many_small_ones, what_they_hold, without_a_bound)

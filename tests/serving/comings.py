@@ -7,8 +7,8 @@ from pathlib import Path
 from types import SimpleNamespace
 
 from serving.agreement import SPAN, body_of, compare
-from serving.talk import (ERRORS, BackEnd, Service, body, check, head_of, in_threads, line_of, read_message, request,
-                          tenant, wait_for)
+from serving.talk import (ERRORS, EXPECT, GO_ON, BackEnd, Service, body, check, head_of, in_threads, line_of, read_message,
+                          request, tenant, wait_for)
 
 # So many come and go, one after the other, in the test of memory, and beside others.
 ROUNDS = 200
@@ -140,8 +140,8 @@ def while_it_goes(folder):
 def begun(service, text):
     """A connection over which a post to c begins: its head was read, and the body, as long as this text, is to come."""
     peer = service.connect()
-    peer.sendall(head_of("c", len(text), "Expect: 100-continue\r\n"))
-    check("it is to go on", read_message(peer.recv), b"HTTP/1.1 100 Continue\r\n\r\n")
+    peer.sendall(head_of("c", len(text), EXPECT))
+    check("it is to go on", read_message(peer.recv), GO_ON)
     # That is written right before the head is looked at.
     time.sleep(0.1)
     return peer

@@ -11,10 +11,12 @@ from pathlib import Path
 
 from replay.make_script import piece
 from serving.loopback import HEAD, REPLY
-from serving.talk import (ERRORS, MOST, TAKEN, BackEnd, Service, body, check, head_of, in_threads, line_of, read_message,
+from serving.talk import (ERRORS, EXPECT, GO_ON, MOST, TAKEN, BackEnd, Service, body, check, head_of, in_threads, line_of, read_message,
                           request, tenant, wait_for)
 
 WHOLE = head_of("a", 34) + body(18, 1)
+# Behind this head the service says that the body is to come.
+ASKING = head_of("a", 34, EXPECT)
 # So many milliseconds of rest are too many. Beside others' work a thread may come much later to what is due.
 LIMIT = 400
 LIMITED = ("--client-timeout", str(LIMIT))
@@ -133,6 +135,38 @@ def slow_requests(folder):
             told, _ = dripped(slow, bytes(1_000_000)) or (None, 0)
             check("at the end", told, b"")
             check("the end", service.end(), (0, line_of("a", accepted=5, not_sampled=5), b""))
+
+
+def slow_behind_leave(folder):
+    """The time begins anew with the leave to send a body: who sends none of it, or not all, is let go after the limit, counts
+    for nothing, and doesn't keep the service at its end. A body that comes in time behind it is taken, also where its head
+    took most of a limit, and who rests behind the reply isn't let go."""
+    rest, part = 1.5 * LIMIT / 1000, 0.6 * LIMIT / 1000
+    with BackEnd() as back_end, Service(folder, [tenant("a", back_end, policies=ERRORS)], *WHOLE_IN_TIME) as service:
+        def asked(peer):
+            peer.sendall(ASKING[:9])
+            time.sleep(part)
+            peer.sendall(ASKING[9:])
+            check("it is to go on", read_message(peer.recv), GO_ON)
+
+        with service.connect() as silent, service.connect() as slow:
+            asked(silent)
+            closes("nothing behind it", silent)
+            asked(slow)
+            slow.sendall(body(18, 1)[:-1])
+            closes("a part behind it", slow)
+        with service.connect() as peer:
+            for _ in range(2):
+                asked(peer)
+                time.sleep(part)
+                peer.sendall(body(18, 1))
+                check("a reply", read_message(peer.recv), REPLY)
+                time.sleep(rest)
+        with service.connect() as last:
+            asked(last)
+            service.run.stdin.close()
+            closes("at the end", last)
+            check("the end", service.end(), (0, line_of("a", accepted=2, not_sampled=2), b""))
 
 
 def both_limits(folder):
@@ -391,5 +425,5 @@ def few_descriptors(folder):
         check("the end", service.end(), (0, "", b""))
 
 
-TESTS = (resting_clients, slow_clients, slow_requests, both_limits, unread_replies, the_end_of_resting, back_ends_that_rest,
-         answers_without_end, no_connection, many_connections, many_threads, few_descriptors)
+TESTS = (resting_clients, slow_clients, slow_requests, slow_behind_leave, both_limits, unread_replies, the_end_of_resting,
+         back_ends_that_rest, answers_without_end, no_connection, many_connections, many_threads, few_descriptors)

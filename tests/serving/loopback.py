@@ -6,8 +6,8 @@ from pathlib import Path
 
 from replay.make_script import piece
 from serving import talk
-from serving.talk import (ERROR, ERRORS, MOST, BackEnd, Service, body, check, globals_of, head_of, line_of, read_message,
-                          request, tenant, wait_for)
+from serving.talk import (ERROR, ERRORS, EXPECT, GO_ON, MOST, BackEnd, Service, body, check, globals_of, head_of,
+                          line_of, read_message, request, tenant, wait_for)
 
 HEAD = b"POST /v1/traces HTTP/1.1\r\nHost: c\r\nX-Scope-OrgID: a\r\nContent-Type: application/x-protobuf\r\n"
 CHUNKED = HEAD + b"Transfer-Encoding: chunked\r\n\r\n22\r\n" + body(17, 33) + b"\r\n0\r\n\r\n"
@@ -88,8 +88,8 @@ def replies(folder):
                 check(text[:300], read_message(peer.recv), wanted)
             check("the end after it", peer.recv(1), b"")
         with service.connect() as peer:
-            peer.sendall(post + b"34\r\nExpect: 100-continue\r\n\r\n")
-            check("leave to go on", peer.recv(25, socket.MSG_WAITALL), b"HTTP/1.1 100 Continue\r\n\r\n")
+            peer.sendall(post + b"34\r\n" + EXPECT.encode() + b"\r\n")
+            check("leave to go on", peer.recv(len(GO_ON), socket.MSG_WAITALL), GO_ON)
             peer.sendall(body(17, 2))
             check("the reply behind it", read_message(peer.recv), exhausted)
         check("the end", service.end(), (0, line_of("a", accepted=1, exported=1, over_budget=1), b""))

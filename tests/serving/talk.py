@@ -14,6 +14,9 @@ from replay.make_script import piece
 MOST = 60
 TAKEN = b"HTTP/1.1 200 OK\r\nContent-Length: 0\r\n\r\n"
 BUSY = b"HTTP/1.1 503 Service Unavailable\r\nContent-Length: 0\r\n\r\n"
+# A field by which a client asks for leave to send its body, and the leave.
+EXPECT = "Expect: 100-continue\r\n"
+GO_ON = b"HTTP/1.1 100 Continue\r\n\r\n"
 ALL = '[[tenant.tail_sampling.policy]]\ntype = "always_sample"\n'
 ERRORS = '[[tenant.tail_sampling.policy]]\ntype = "status_code"\nstatus_codes = ["ERROR"]\n'
 ERROR = b"\x7a\x02\x18\x02"

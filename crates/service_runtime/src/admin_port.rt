@@ -1,6 +1,6 @@
 //! A service's admin port.
 
-ghost use Rattle.std.specs.Prelude.{◌≡◌, is_some};
+ghost use Rattle.std.specs.Prelude.{◌≡◌, is_some, option_map};
 
 use crate::desk::AdminDesk;
 use crate::entrance::Entrance;
@@ -47,7 +47,9 @@ pub struct AdminEntrance<'h> {
 
 impl<'h> AdminEntrance<'h> {
     /// At this port.
-    pub fn at(port: AdminPort<'h>) -> AdminEntrance<'h> {
+    pub(crate) fn at(port: AdminPort<'h>) -> AdminEntrance<'h>
+        ensures { result.port ≡ port.entry }
+    {
         let patience = Patience {
             rest: Some(Duration::from_secs(LONGEST_REST)),
             request: Some(Duration::from_secs(LONGEST_REQUEST)),
@@ -62,7 +64,8 @@ impl<'h> AdminEntrance<'h> {
 
 /// The entrance at this admin port, if there is one.
 pub fn admin_entrance_of<'h>(port: Option<AdminPort<'h>>) -> Option<AdminEntrance<'h>>
-    ensures { is_some result ≡ is_some port.entry }
+    ensures there { is_some result ≡ is_some port.entry }
+    ensures port { option_map (λ admin. admin.port) result ≡ port.entry }
 {
     match port {
         Some(port) => Some(AdminEntrance::at(port)),

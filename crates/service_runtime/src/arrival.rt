@@ -42,5 +42,6 @@ fn more_arrive<C: Wait + Clock>(waiting: &mut ServiceBeat<'_, C>, here: usize) -
         }
         waiting.pause();
     }
-    None
+    let more = waiting.signals().here();
+    if here < more { Some(more) } else { None }
 }

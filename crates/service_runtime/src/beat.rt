@@ -14,10 +14,11 @@ use std::sync::Wait;
 use std::sync::atomic::{AtomicBool, AtomicUsize, Ordering};
 use std::time::{Clock, Instant};
 
-/// What threads tell one another of the service's course. Each sign is given once and stays.
+/// What all threads share beside the shards: signs of the service's course, what wakes and bounds them, and what they
+/// count.
 #[derive(Drop)]
 pub struct Signals {
-    // How many threads are at their work.
+    // How many threads are at their work. Like the three signs behind it, it never goes back.
     here: AtomicUsize,
     end_asked: AtomicBool,
     closing: AtomicBool,
@@ -57,7 +58,7 @@ impl Signals {
     }
 
     /// What wakes those who rest.
-    pub fn bells(&self) -> &Bells {
+    pub(crate) fn bells(&self) -> &Bells {
         &self.bells
     }
 
@@ -68,7 +69,7 @@ impl Signals {
 
     /// Memory is short: from now on the shards' moments go on millisecond by millisecond. Turners that rest look at
     /// once what is due.
-    pub fn slow_down(&self) {
+    pub(crate) fn slow_down(&self) {
         self.paces.slow_down();
         self.bells.ring_shards();
     }
@@ -120,7 +121,7 @@ impl Signals {
     }
 
     /// One thread more is at its work: how many are now. The last of so many wakes the others.
-    pub fn arrive(&self, threads: usize) -> usize {
+    pub(crate) fn arrive(&self, threads: usize) -> usize {
         let here = self.here.fetch_add(1, Ordering::SeqCst).saturating_add(1);
         if here >= threads {
             self.bells.ring_start();
@@ -129,7 +130,7 @@ impl Signals {
     }
 
     /// How many threads are at their work.
-    pub fn here(&self) -> usize {
+    pub(crate) fn here(&self) -> usize {
         self.here.load(Ordering::SeqCst)
     }
 
@@ -205,7 +206,7 @@ impl<'b, C: Clock> ServiceBeat<'b, C> {
     }
 
     /// A beat like this, for who waits until all are at their work.
-    pub fn of_arrival(&self) -> ServiceBeat<'b, C> {
+    pub(crate) fn of_arrival(&self) -> ServiceBeat<'b, C> {
         self.with(Rest::of_arrival(self.signals.bells()), Pace::of_clock())
     }
 

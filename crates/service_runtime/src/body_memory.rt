@@ -19,7 +19,7 @@ pub struct BodyMemory {
 
 impl BodyMemory {
     /// Nothing is claimed.
-    pub fn new(most: Option<u64>) -> BodyMemory {
+    pub(crate) fn new(most: Option<u64>) -> BodyMemory {
         BodyMemory {
             most,
             claimed: AtomicU64::new(0),

@@ -36,7 +36,7 @@ impl Gates {
     }
 
     /// Goes through one of this tenant's gates, and waits at one of them where all are shut. It is open again once what
-    /// is returned is let go.
+    /// is returned is let go. None never, since each tenant's group has its gates.
     pub fn pass<R: Wait>(&self, rt: &R, tenant: u32) -> Option<MutexGuard<'_, ()>> {
         let first = tenant as usize % GROUPS * GATES;
         for gate in self.gates.as_slice().get(first..first + GATES)? {

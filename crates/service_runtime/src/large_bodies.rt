@@ -19,7 +19,7 @@ pub struct LargeBodies {
 
 impl LargeBodies {
     /// None is there.
-    pub fn new() -> LargeBodies {
+    pub(crate) fn new() -> LargeBodies {
         LargeBodies {
             line: Mutex::new(()),
             left: Mutex::new(ROOM),

@@ -27,7 +27,7 @@ pub struct LastAnswers {
 
 impl LastAnswers {
     /// Nobody has answered yet.
-    pub fn new(alloc: Global) -> Result<LastAnswers, AllocError> {
+    pub(crate) fn new(alloc: Global) -> Result<LastAnswers, AllocError> {
         let mut words = Vec::with_capacity(alloc, WORDS as usize)?;
         for _ in 0..WORDS {
             words.push(AtomicU64::new(0))?;

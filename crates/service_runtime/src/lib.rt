@@ -7,10 +7,10 @@
 //! from an input ([`next_line`]), which is a desk where there is an admin port ([`AdminDesk`]), and what is written to
 //! the output is written whole, or lost and counted ([`write_text`]).
 //!
-//! It knows nothing of shards, tenants' settings or what a message is posted to. It stands on `export_edge` and
-//! `job_lane` for beats and jobs, on `http_edge`, `http_line` and `http1` for messages and connections, on
-//! `admin_pages` for what figures are and how an answer is spelled, and on `send_retry` for answers. The rules are this
-//! project's own, but for those of HTTP that `specs/` name.
+//! It calls no shard, of which it knows the number alone, and knows nothing of tenants' settings or of what becomes of
+//! a message. It stands on `export_edge` and `job_lane` for beats and jobs, on `http_edge`, `http_line` and `http1` for
+//! messages and connections, on `admin_pages` for what figures are and how an answer is spelled, and on `send_retry`
+//! for answers. The rules are this project's own, but for those of HTTP that `specs/` name.
 #![tactic(auto)]
 
 ghost use Rattle.service_runtime.specs.BodyMemory.{CountsCoverBodies};
@@ -63,7 +63,6 @@ pub use crate::pace::{Paces, ShardPace};
 pub use crate::patient::PatientBackEnd;
 pub use crate::receiving::{Reception, receive_all};
 pub use crate::reserve::Reserve;
-pub use crate::rest::Bells;
 pub use crate::tally::Tally;
 pub use crate::teller::Teller;
 pub use crate::token::is_let_in;

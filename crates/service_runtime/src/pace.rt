@@ -66,7 +66,7 @@ impl ShardPace {
 
     /// Whether memory was short and they are far behind this one, which is the clock's. Where the last turn found
     /// nothing they count as having come to where something is due next.
-    pub fn is_behind(&self, now: u64) -> bool {
+    pub(crate) fn is_behind(&self, now: u64) -> bool {
         let reached = self.reached.load(Ordering::SeqCst);
         let idle_until = self.due.load(Ordering::SeqCst).saturating_sub(1);
         self.is_slow() && now.saturating_sub(reached.max(idle_until)) > MOST_BEHIND
@@ -112,7 +112,7 @@ impl ShardPace {
     }
 
     /// A turn begins at this moment: what others do from now on its turner may not see before it rests again.
-    pub fn begin_turn(&self, now: u64) {
+    pub(crate) fn begin_turn(&self, now: u64) {
         self.is_at_rest.store(false, Ordering::SeqCst);
         let passed = now.saturating_sub(self.counted_from.load(Ordering::SeqCst));
         if passed >= COUNTED {
@@ -124,46 +124,46 @@ impl ShardPace {
     }
 
     /// A post or an answer came to it.
-    pub fn note_call(&self) {
+    pub(crate) fn note_call(&self) {
         let _before = self.calls.fetch_add(1, Ordering::SeqCst);
     }
 
     /// A turn was made, or was refused memory. What is due next isn't known.
-    pub fn note_turn(&self, is_refused: bool) {
+    pub(crate) fn note_turn(&self, is_refused: bool) {
         self.is_refused.store(is_refused, Ordering::SeqCst);
         self.due.store(0, Ordering::SeqCst);
     }
 
     /// A turn found nothing, and this is when something is due next by the time alone, if anything is.
-    pub fn note_due(&self, due: Option<u64>) {
+    pub(crate) fn note_due(&self, due: Option<u64>) {
         self.due.store(due.unwrap_or(u64::MAX), Ordering::SeqCst);
         self.is_at_rest.store(true, Ordering::SeqCst);
     }
 
     /// Whether its turner rests by the clock until something is due, so that it need not be rung for what is due later.
     /// Where calls come often it is rung by each: what is done by many small turns keeps none of them waiting for long.
-    pub fn is_at_rest(&self) -> bool {
+    pub(crate) fn is_at_rest(&self) -> bool {
         let is_calm = !self.are_frequent.load(Ordering::SeqCst) && !self.is_slow();
         is_calm && self.is_at_rest.load(Ordering::SeqCst)
     }
 
     /// Whether its turner is to be rung, where something is due at this moment next, or nothing is.
-    pub fn has_to_hear(&self, due: Option<u64>) -> bool {
+    pub(crate) fn has_to_hear(&self, due: Option<u64>) -> bool {
         !self.is_at_rest() || due.unwrap_or(u64::MAX) < self.due.load(Ordering::SeqCst)
     }
 
     /// Its turner is rung: it rests no longer.
-    pub fn note_ring(&self) {
+    pub(crate) fn note_ring(&self) {
         self.is_at_rest.store(false, Ordering::SeqCst);
     }
 
     /// A turn gave a job.
-    pub fn begin_job(&self) {
+    pub(crate) fn begin_job(&self) {
         let _before = self.jobs.fetch_add(1, Ordering::SeqCst);
     }
 
     /// The answer to a job was taken.
-    pub fn end_job(&self) {
+    pub(crate) fn end_job(&self) {
         let _before = self.jobs.fetch_sub(1, Ordering::SeqCst);
     }
 }
@@ -176,7 +176,7 @@ pub struct Paces {
 
 impl Paces {
     /// So many shards whose moments are the clock's.
-    pub fn new(alloc: Global, shards: usize) -> Result<Paces, AllocError> {
+    pub(crate) fn new(alloc: Global, shards: usize) -> Result<Paces, AllocError> {
         let mut list = Vec::new(alloc);
         for _ in 0..shards {
             list.push(ShardPace::new())?;
@@ -191,7 +191,7 @@ impl Paces {
 
     /// Memory is short: from now on the shards' moments go on millisecond by millisecond, until they are the clock's
     /// again and there is enough.
-    pub fn slow_down(&self) {
+    pub(crate) fn slow_down(&self) {
         for pace in self.shards.as_slice() {
             pace.is_slow.store(true, Ordering::SeqCst);
         }
@@ -205,7 +205,7 @@ impl Paces {
     }
 
     /// Whether nothing is left of what somebody is in a hurry for, if anybody is.
-    pub fn are_through(&self) -> bool {
+    pub(crate) fn are_through(&self) -> bool {
         for pace in self.shards.as_slice() {
             if !pace.is_through() {
                 return false;

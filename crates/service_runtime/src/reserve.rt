@@ -38,7 +38,7 @@ struct Kept {
 
 impl Reserve {
     /// All of it is there, if there is room.
-    pub fn new(alloc: Global) -> Reserve {
+    pub(crate) fn new(alloc: Global) -> Reserve {
         let block = Vec::with_capacity(alloc, KEPT).ok();
         Reserve {
             alloc,
@@ -59,13 +59,13 @@ impl Reserve {
     }
 
     /// Whether nobody has needed it since it was last made.
-    pub fn is_there(&self) -> bool {
+    pub(crate) fn is_there(&self) -> bool {
         self.is_there.load(Ordering::SeqCst)
     }
 
     /// Whether it is there at this moment, in milliseconds, once it was made again if that may be: where nobody is
     /// refused memory, and there is some. For turners, so that it is of memory that they can get.
-    pub fn is_restored<R: Wait>(&self, rt: &R, now: u64) -> bool {
+    pub(crate) fn is_restored<R: Wait>(&self, rt: &R, now: u64) -> bool {
         self.is_there() || self.restore(rt, now)
     }
 
@@ -87,7 +87,7 @@ impl Reserve {
     }
 
     /// One thread more is refused memory: the reserve is given up.
-    pub fn want<R: Wait>(&self, rt: &R) {
+    pub(crate) fn want<R: Wait>(&self, rt: &R) {
         let mut kept = self.kept.lock(rt);
         let _before = self.wanting.fetch_add(1, Ordering::SeqCst);
         self.is_there.store(false, Ordering::SeqCst);
@@ -96,7 +96,7 @@ impl Reserve {
     }
 
     /// One of these threads is refused memory no longer.
-    pub fn sate(&self) {
+    pub(crate) fn sate(&self) {
         let _before = self.wanting.fetch_sub(1, Ordering::SeqCst);
     }
 }

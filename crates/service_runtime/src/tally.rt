@@ -118,7 +118,7 @@ pub struct Tally {
 
 impl Tally {
     /// Nothing was done yet.
-    pub fn new() -> Tally {
+    pub(crate) fn new() -> Tally {
         Tally {
             memory_refusals: Count::new(),
             connections: Count::new(),
@@ -138,7 +138,7 @@ impl Tally {
     }
 
     /// An attempt was refused memory.
-    pub fn refuse(&self) {
+    pub(crate) fn refuse(&self) {
         self.memory_refusals.add(1);
     }
 
@@ -153,22 +153,22 @@ impl Tally {
     }
 
     /// So many bytes came from a client.
-    pub fn receive(&self, bytes: usize) {
+    pub(crate) fn receive(&self, bytes: usize) {
         self.received_bytes.add(bytes as u64);
     }
 
     /// So many bytes went to a client.
-    pub fn send(&self, bytes: usize) {
+    pub(crate) fn send(&self, bytes: usize) {
         self.sent_bytes.add(bytes as u64);
     }
 
     /// A request was answered with this status.
-    pub fn reply(&self, status: u16) {
+    pub(crate) fn reply(&self, status: u16) {
         self.requests.note(status);
     }
 
     /// A turn came to this.
-    pub fn end_turn(&self, turned: &TurnResult) {
+    pub(crate) fn end_turn(&self, turned: &TurnResult) {
         self.turns.add(1);
         match turned {
             TurnResult::Job(_) => self.jobs.add(1),

@@ -42,7 +42,7 @@ impl<'h, R: Wait> Teller<'h, R> {
 
     /// A post or an answer came to this shard: whether its turner rests until something is due there, so that it need
     /// not be rung for what is later.
-    pub fn called(&self, shard: usize) -> bool {
+    pub fn note_call(&self, shard: usize) -> bool {
         match self.signals.paces().shard(shard) {
             Some(pace) => {
                 pace.note_call();

@@ -1,6 +1,6 @@
 //! A client's connection, how long it may take, and how many bytes.
 
-ghost use Rattle.std.specs.Prelude.{◌≡◌, ◌+◌, ◌-◌, ◌^◌, min};
+ghost use Rattle.std.specs.Prelude.{◌≡◌, ◌+◌, ◌-◌, ◌^◌, min, if◌then◌else◌};
 ghost use Rattle.service_runtime.specs.Visit.{is_within};
 
 use crate::beat::Signals;
@@ -14,7 +14,7 @@ use std::time::{Clock, Duration, Instant};
 pub struct Patience {
     /// For more of what it sends, or until it takes more of a reply.
     pub rest: Option<Duration>,
-    /// For a whole request, from its first byte on.
+    /// For a whole request, from its first byte on, and behind `100 Continue` for its body, from there on.
     pub request: Option<Duration>,
     /// Of a request, its head among them, and of what comes before its reply is begun.
     pub bytes: Option<u64>,
@@ -33,21 +33,22 @@ const INTERIM: &[u8] = b"HTTP/1.1 1";
 
 /// A client's connection as it is served. What is read from a reply on, or from the start, is a request until the next
 /// reply is begun: a read of it that would end later than it may fails, and one by which it has more bytes than it may.
-/// Once the work is over the connection ends where a request would begin: so who asks again and again doesn't keep the
-/// service from ending.
+/// Behind an interim answer the same request goes on, and has its time anew. Once the work is over the connection ends
+/// where a request would begin: so who asks again and again doesn't keep the service from ending.
 #[derive(Drop)]
 pub struct Visit<'v, R> {
     rt: &'v R,
     stream: &'v TcpStream,
     patience: Patience,
     signals: &'v Signals,
-    // Whether some of a request was read.
+    // Whether some of a request was read that has no reply yet.
     is_asked: bool,
-    // When the request began of which some was read.
+    // Since when that request takes time, where requests are bounded: since some of it was read first, or since its
+    // last interim answer.
     began: Option<Instant>,
     // Whether the last read had what was left to a request as its limit.
     is_cut: bool,
-    // How many bytes of the request were read. At 2^64 - 1 it stays.
+    // How many bytes of that request were read, those before an interim answer among them. At 2^64 - 1 it stays.
     come: u64,
 }
 
@@ -87,6 +88,32 @@ impl<'v, R: Clock> Visit<'v, R> {
         self.stream.set_read_timeout(Some(rest.min(left)))
     }
 
+    /// From now on a request takes time, where requests are bounded.
+    fn begin(&mut self)
+        ensures come { self.new.come ≡ self.old.come }
+        ensures asked { self.new.is_asked ≡ self.old.is_asked }
+    {
+        self.began = match self.patience.request {
+            Some(_) => Instant::now(self.rt).ok(),
+            None => None,
+        };
+    }
+
+    /// A reply is begun, so what is read behind it is another request; or an interim answer, behind which the request
+    /// goes on.
+    fn note_answer(&mut self, is_interim: bool)
+        ensures come { self.new.come ≡ (if is_interim then self.old.come else 0) }
+        ensures asked { self.new.is_asked ≡ is_interim }
+    {
+        self.is_asked = is_interim;
+        if is_interim {
+            self.begin();
+        } else {
+            self.began = None;
+            self.come = 0;
+        }
+    }
+
     /// Counts what a read brought. False where the request has more bytes than it may.
     fn note_read(&mut self, count: u64) -> bool
         ensures come { self.new.come ≡ min (self.old.come + count) (2 ^ 64 - 1) }
@@ -108,8 +135,8 @@ impl<R: Clock> Read for Visit<'_, R> {
         self.limit_read()?;
         let count = self.stream.read(buf)?;
         self.is_asked = true;
-        if self.began.is_none() && self.patience.request.is_some() {
-            self.began = Instant::now(self.rt).ok();
+        if self.began.is_none() {
+            self.begin();
         }
         if !self.note_read(count as u64) {
             return Err(io::Error::from(ErrorKind::FileTooLarge));
@@ -120,9 +147,7 @@ impl<R: Clock> Read for Visit<'_, R> {
 
 impl<R: Clock> Write for Visit<'_, R> {
     fn write(&mut self, buf: &[u8]) -> io::Result<usize> {
-        self.began = None;
-        self.come = 0;
-        self.is_asked = buf.starts_with(INTERIM);
+        self.note_answer(buf.starts_with(INTERIM));
         self.stream.write(buf)
     }
 

@@ -323,7 +323,7 @@ impl<'h, J: Naming, R: Wait + Clock> WorkerContext<'h, J, R> {
         ensures moment { self.new.beat.last ≡ self.old.beat.last }
     {
         let shard = self.shard_of(tenant);
-        let due = if self.teller.called(shard) {
+        let due = if self.teller.note_call(shard) {
             let told = self.hub.look(self.rt, &mut self.caller, tenant);
             told.answer.shard_ready
         } else {
