@@ -313,7 +313,8 @@ function take(tenants) {
 async function ask() {
   try {
     const token = sessionStorage.getItem('token');
-    const reply = await fetch('tenants', { headers: token ? { Authorization: 'Bearer ' + token } : {} });
+    const headers = token ? { Authorization: 'Bearer ' + token } : {};
+    const reply = await fetch('tenants', { headers, signal: AbortSignal.timeout(10000) });
     at('pass').hidden = reply.status !== 401;
     if (reply.status === 401) tell('it wants a token', true);
     else if (!reply.ok) tell('it answered ' + reply.status, true);
