@@ -8,7 +8,7 @@
 //! behind it which file, address, input or output it is of, and why.
 //!
 //! It stands on `trace_collector`, whose `replay` promises what is written, on `settings_check`, whose `check` does so
-//! too, and on `trace_service`.
+//! too, on `trace_service`, and on `service_runtime` for what a service is given from outside.
 #![tactic(auto)]
 
 mod admin;

@@ -43,7 +43,8 @@ Behind `serve SETTINGS`, in any order and each once at most:
   --client-timeout MS    closes a client's connection that rests for MS milliseconds, 1 to
                          4294967295; else none is closed for resting
   --request-timeout MS   closes a client's connection whose request isn't whole MS milliseconds after its
-                         first byte, 1 to 4294967295; else it may take any time
+                         first byte that is read behind the last reply, or after `100 Continue`, 1 to
+                         4294967295; else it may take any time
   --back-end-timeout MS  an attempt to which no whole answer of the back end has come within MS
                          milliseconds, 1 to 4294967295, has failed, and the batch is tried again;
                          else it is waited for
