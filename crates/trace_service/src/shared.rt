@@ -138,7 +138,7 @@ pub(crate) struct Shared<'h, J: Naming, R> {
 }
 
 impl<'h, J: Naming, R: Wait + Clock> Shared<'h, J, R> {
-    ghost use Rattle.std.specs.Prelude.{◌≡◌, ◌<◌, IfOk, is_some, length};
+    ghost use Rattle.std.specs.Prelude.{◌≡◌, ◌<◌, IfOk, is_some, length, option_map};
 
     /// So many threads share this workplace, from now on.
     pub fn at<D>(
@@ -150,6 +150,8 @@ impl<'h, J: Naming, R: Wait + Clock> Shared<'h, J, R> {
         ensures hub { IfOk result (λ shared. shared.hub.now ≡ workplace.now.hub) }
         ensures lane { IfOk result (λ shared. shared.lane.now ≡ workplace.now.lane) }
         ensures admin { IfOk result (λ shared. is_some shared.admin ≡ is_some start.now.admin) }
+        ensures port { IfOk result (λ shared. option_map (λ admin. admin.port) shared.admin
+            ≡ start.now.admin) }
     {
         let since = Instant::now(start.rt)?;
         Ok(Shared {
