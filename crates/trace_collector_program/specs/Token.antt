@@ -14,6 +14,10 @@ goes_on padded [] = true
 goes_on padded (byte ∷ bytes) =
     if byte == 61 then goes_on true bytes else not padded && is_token_byte byte && goes_on padded bytes
 
+-- so many bytes it has at least, since a shorter one is guessed sooner than it should be (own rule)
+abbrev pub shortest_token : ℕ
+shortest_token = 16
+
 -- a token
 abbrev pub is_token : List ℕ → Bool
 is_token [] = false

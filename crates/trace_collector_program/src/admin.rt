@@ -1,8 +1,8 @@
 //! The service's admin port.
 
-ghost use Rattle.std.specs.Prelude.{◌≡◌, false, IfErr, IfOk, IsTrue};
+ghost use Rattle.std.specs.Prelude.{◌≡◌, ◌≤◌, false, IfErr, IfOk, IsTrue, length};
 ghost use Rattle.trace_collector_program.specs.Fault.{IsOutside};
-ghost use Rattle.trace_collector_program.specs.Token.{is_token_byte, goes_on, is_token};
+ghost use Rattle.trace_collector_program.specs.Token.{is_token_byte, goes_on, is_token, shortest_token};
 
 use crate::reason::Reason;
 use crate::start::listen_at;
@@ -89,12 +89,13 @@ fn token_of_file(
     reason: &mut Reason,
 ) -> Result<Vec<u8>, ProgramFault>
     ensures token { IfOk result (λ token. IsTrue (is_token token.items)) }
+    ensures long { IfOk result (λ token. shortest_token ≤ length token.items) }
     ensures fault { IfErr result IsOutside }
 {
     let mut token = read_file(rt, path, reason)?;
     let len = without_end(token.as_slice()).len();
     token.truncate(len);
-    if len < SHORTEST_TOKEN {
+    if token.len() < SHORTEST_TOKEN {
         return Err(told(reason, path, "a token has at least 16 bytes"));
     }
     if !is_token(token.as_slice()) {

@@ -1,6 +1,6 @@
 //! The word `serve`.
 
-ghost use Rattle.std.specs.Prelude.{◌≡◌, ◌↔◌, Ok, IfErr, option_map};
+ghost use Rattle.std.specs.Prelude.{◌≡◌, ◌↔◌, Ok, IfErr, option_copied, option_map};
 ghost use Rattle.std.specs.Duration.{as_nanos};
 ghost use Rattle.trace_collector_program.specs.Fault.{of_service, IsOutside};
 ghost use Rattle.trace_collector_program.specs.Serve.{IsAsked, nanos_of};
@@ -274,7 +274,12 @@ where
 }
 
 /// The admin port of this door and this desk.
-fn port_at<'x>(door: &'x AdminDoor, desk: &'x AdminDesk) -> AdminPort<'x> {
+fn port_at<'x>(door: &'x AdminDoor, desk: &'x AdminDesk) -> AdminPort<'x>
+    ensures listener { result.listener.now ≡ door.now.listener }
+    ensures desk { result.desk.now ≡ desk.now }
+    ensures token { option_copied result.token ≡ option_map (λ token. token.items) door.now.token }
+    ensures version { result.version.now ≡ VERSION.now }
+{
     let token = match &door.token {
         Some(token) => Some(token.as_slice()),
         None => None,
