@@ -11,8 +11,8 @@ from pathlib import Path
 from serving import talk
 from serving.exposition import families
 from serving.memory import bytes_of
-from serving.talk import (ALL, BUSY, MOST, NAMES, BackEnd, Service, body, check, in_threads, line_of, listening_ports,
-                          read_message, tenant, wait_for)
+from serving.talk import (ALL, BUSY, EXPECT, GO_ON, MOST, NAMES, BackEnd, Service, body, check, in_threads, line_of,
+                          listening_ports, read_message, tenant, wait_for)
 
 TOKEN = "Zm9yIHRlc3RzIGFsb25l"
 # What is there of a tenant without spans whose settings have the defaults, and what may be there (docs/SETTINGS.md).
@@ -237,15 +237,18 @@ def refused_in_json(folder):
 
 
 def in_bytes(folder):
-    """A request has no more bytes than it may, its head among them. Who sends more is told nothing, with the token or
-    without, and of whoever has no token nothing is held."""
+    """A request has no more bytes than it may, its head among them, also behind the leave to send its body. Who sends more is
+    told nothing, with the token or without, and of whoever has no token nothing is held."""
     most = 1_048_576
     file = Path(folder, "token")
     file.write_text(TOKEN + "\n")
 
-    def told(service, message):
+    def told(service, message, behind=b""):
         with suppress(ConnectionError), service.to_admin() as peer:
             peer.sendall(message)
+            if behind:
+                check("it is to go on", read_message(peer.recv), GO_ON)
+                peer.sendall(behind)
             return read_message(peer.recv)
         return b""
 
@@ -260,6 +263,11 @@ def in_bytes(folder):
         chunk = b"10000\r\n" + b"#" * 65_536 + b"\r\n"
         check("chunks without an end", told(service, f"{head}Transfer-Encoding: chunked\r\n\r\n".encode() + chunk * 32), b"")
         check("it came", service.hear(), "added new 1\n")
+        room -= len(EXPECT)
+        for length, status in ((room, b"HTTP/1.1 409"), (room + 1, b"")):
+            message = f"{head}{EXPECT}Content-Length: {length}\r\n\r\n".encode()
+            check(f"{length} bytes behind leave", told(service, message, document[:length])[:12], status)
+        check("it was there", service.hear(), "refused add 14\n")
         before = bytes_of(service.run.pid, "VmHWM")
         large = b"POST /tenants HTTP/1.1\r\nHost: admin\r\nContent-Length: 20000000\r\n\r\n" + b"#" * 20_000_000
         in_threads(*[lambda: check("20 MB without the token", told(service, large), b"")] * 8)
