@@ -629,8 +629,8 @@ def course():
 
 
 def threads():
-    """The notes of a body are made in as many threads as the settings have parts, the replay's own among them, or as there
-    are spans, of 4,096 at a time. No clause says so."""
+    """The notes of 512 spans or more are made in as many threads as the settings have parts, the replay's own among them, of
+    4,096 at a time, and those of fewer in its own. No clause says so."""
     compiler = shutil.which("cc") or shutil.which("clang") or shutil.which("gcc")
     if not compiler:
         print("no C compiler: threads weren't counted")
@@ -638,8 +638,8 @@ def threads():
     with tempfile.TemporaryDirectory() as folder:
         shim, settings, started = Path(folder, "started.so"), Path(folder, "settings.toml"), Path(folder, "started")
         subprocess.run([compiler, "-shared", "-fPIC", "-O2", "-o", shim, HERE / "tests/started.c", "-ldl"], check=True)
-        for parts, spans, wanted in ((1, 5, 0), (2, 5, 1), (4, 8, 3), (4, 3, 2), (4, 1, 0), (16, 5, 4), (16, 4_097, 15),
-                                     (16, 4_098, 16)):
+        for parts, spans, wanted in ((1, 600, 0), (2, 1, 0), (16, 511, 0), (2, 512, 1), (4, 600, 3), (16, 4_096, 15),
+                                     (16, 4_097, 15), (16, 4_608, 30)):
             settings.write_text(f"[global]\nparts = {parts}\n{TENANT}")
             started.write_bytes(b"")
             under = dict(os.environ, LD_PRELOAD=str(shim), STARTED=str(started))

@@ -225,4 +225,29 @@ def bodies_that_nobody_wants(folder):
         check("spans that were taken", accepted(service), len(ways) + 1)
 
 
-TESTS = (refused_while_made_ready, most_while_made_ready, many_large_bodies, bodies_that_nobody_wants)
+# A tenant that remembers two traces that it decided, and has one row. With these policies none is sampled.
+REMEMBERS = f"num_traces = 1\n[tenant.tail_sampling.decision_cache]\nnon_sampled_cache_size = 2\n{ERRORS}"
+# So many bytes more than behind the second tenant's late spans a process may have behind the last one's: for the late spans
+# of one tenant was room of as many.
+KEPT = 8_000_000
+
+
+def late_spans_leave_nothing(folder):
+    """Tenants post hundreds of thousands of spans each of a trace that they decided and of which only its id is left.
+    Behind the replies nothing is kept of them."""
+    names = [f"a{number}" for number in range(6)]
+    late, told = in_scope(SPAN * (LARGE // len(SPAN))), []
+    with BackEnd() as back_end:
+        sections = [tenant(name, back_end, policies=REMEMBERS, most=10) for name in names]
+        with Service(folder, sections, shards=1, receivers=1, senders=1, parts=1,
+                     under=("env", "MALLOC_ARENA_MAX=1")) as service:
+            for name in names:
+                for trace in (1, 2):
+                    check(f"trace {trace} of {name}", service.post(name, body(trace, 2)), (200, b""))
+                    wait_for(lambda name=name: "undecided=0" in service.report(name), "it is decided")
+                check(f"late spans of {name}", service.post(name, late), (200, b""))
+                told.append(bytes_of(service.run.pid, "VmRSS"))
+    check(f"{told[-1] - told[1]} bytes more, at most {KEPT}", told[-1] - told[1] <= KEPT, True)
+
+
+TESTS = (late_spans_leave_nothing, refused_while_made_ready, most_while_made_ready, many_large_bodies, bodies_that_nobody_wants)

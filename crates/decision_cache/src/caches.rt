@@ -9,9 +9,12 @@ use crate::recent::RecentIds;
 use std::alloc::{AllocError, Global};
 use std::marker::Model;
 
+/// Room stays for so many hits. A post seldom has more, and what one took beyond that is given back behind it.
+const KEPT_HITS: usize = 1024;
+
 /// A tenant's caches of the ids of traces that were decided: those that were sampled, and those that weren't.
 ///
-/// What a span hits is noted beside them, and becomes part of their order with a commit, which takes no memory. Until
+/// What a span hits is noted beside them, and becomes part of their order with a commit, which needs no memory. Until
 /// then it can be taken back.
 #[derive(Drop)]
 pub struct DecisionCaches {
@@ -85,20 +88,23 @@ impl DecisionCaches {
         self.hits.len()
     }
 
-    /// Takes back the hits behind the first so many. It takes no memory.
+    /// Takes back the hits behind the first so many. No want of memory keeps it from that.
     pub fn undo_hits(&mut self, count: usize)
         ensures { self.new ≡ record self.old { hits = take count self.old.hits } }
     {
         self.hits.truncate(count);
+        self.hits.shrink_to(KEPT_HITS);
     }
 
-    /// What was hit goes first, in the order of the hits, and none can be taken back any more. It takes no memory.
+    /// What was hit goes first, in the order of the hits, and none can be taken back any more. No want of memory keeps
+    /// it from that.
     pub fn commit(&mut self)
         ensures none { self.new.hits ≡ [] }
         ensures shown { shown self.new ≡ shown self.old }
     {
         promote_all(&mut self.sampled, &mut self.other, self.hits.as_slice());
         self.hits.clear();
+        self.hits.shrink_to(KEPT_HITS);
     }
 
     /// A trace was decided while no hits wait: its id goes first in the cache of its verdict, and the last one goes

@@ -14,6 +14,9 @@ use std::thread::Threads;
 use tail_notes::note_all;
 use tail_policy::{TenantPolicies, TraceNote};
 
+/// Fewer spans than this are noted by one thread: another one would take longer to start than they take.
+const MANY: usize = 512;
+
 /// What each span tells by itself.
 fn own_views(alloc: Global, parts: &[UnnotedSpan]) -> Result<Vec<SpanRef<'_>>, AllocError>
     ensures { IfOk result (λ views. views.items ≡ map (λ p. facts_of p.text []) parts.now) }
@@ -52,6 +55,14 @@ fn with_notes(
         .collect(alloc)
 }
 
+/// In how many threads so many spans are noted, of so many that there may be.
+fn threads_for(spans: usize, threads: u32) -> u32
+    requires { (0 < threads) × (threads ≤ 16) }
+    ensures { (0 < result) × (result ≤ 16) }
+{
+    if spans < MANY { 1 } else { threads }
+}
+
 /// Spans with their notes, in order, made in at most `threads` threads. They are few, since the memory of their notes
 /// without their resources is taken at once.
 fn noted_at_once<R: Threads + Sync>(
@@ -65,7 +76,8 @@ fn noted_at_once<R: Threads + Sync>(
     requires few { length parts.items ≤ 4096 }
     ensures { IfOk result (λ spans. spans.items ≡ map (noted policies.now) parts.items) }
 {
-    let own = own_notes(rt, alloc, policies, parts.as_slice(), threads)?;
+    let busy = threads_for(parts.len(), threads);
+    let own = own_notes(rt, alloc, policies, parts.as_slice(), busy)?;
     with_notes(alloc, parts, own)
 }
 

@@ -42,14 +42,16 @@ fn scope_of(alloc: Global, first: u8, count: u8) -> Result<Vec<u8>, Fail> {
     Ok(text)
 }
 
-/// A body of two scopes of one resource, with so many spans each.
-fn body_of(alloc: Global, count: u8) -> Result<Vec<u8>, Fail> {
+/// A body in which a resource stands so many times, with two scopes of so many spans each.
+fn body_of(alloc: Global, count: u8, times: u32) -> Result<Vec<u8>, Fail> {
     let mut group = Vec::new(alloc);
     put_bytes_field(&mut group, 1, RESOURCE)?;
     put_bytes_field(&mut group, 2, scope_of(alloc, 1, count)?.as_slice())?;
     put_bytes_field(&mut group, 2, scope_of(alloc, 120, count)?.as_slice())?;
     let mut body = Vec::new(alloc);
-    put_bytes_field(&mut body, 1, group.as_slice())?;
+    for _ in 0..times {
+        put_bytes_field(&mut body, 1, group.as_slice())?;
+    }
     Ok(body)
 }
 
@@ -72,9 +74,9 @@ fn is_same<R: Threads + Sync>(
 #[test]
 fn many_spans_in_several_threads(rt: HostRuntime) -> Result<(), Fail> {
     let section = section_of(rt.alloc(), THREE)?;
-    // None, fewer than threads, and many.
-    for count in [0, 1, 2, 3, 100] {
-        let body = body_of(rt.alloc(), count)?;
+    // None, as many as one thread notes, and so many that there are others.
+    for (count, times) in [(0, 1), (1, 1), (3, 1), (100, 3)] {
+        let body = body_of(rt.alloc(), count, times)?;
         for parts in [1u32, 2, 16] {
             assert!(rt; is_same(&rt, rt.alloc(), &section, body.as_slice(), parts)?);
         }
