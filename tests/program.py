@@ -380,6 +380,10 @@ def checks_texts(checked):
     both = said(TENANT.replace("policy]]", "polcy]]"))
     check("a warning beside a fault", both[1].split("\n")[0::3], ["settings fault 11 policy", "# warning: tenant 1 (a), "
           "table tail_sampling: no setting has the key polcy, so it is ignored"])
+    long = "".join(f"{'x' * 9}{number} = 1\n" for number in range(10, 100))
+    check("of a name that is too long no more stands before each key than a name may have", said(
+        f'[[tenant]]\nname = "{"a" * 1_000}"\n{long}')[1].split("\n")[-91:], [f"# warning: tenant 1 ({'a' * 64}): no setting has "
+        f"the key {'x' * 9}{number}, so it is ignored" for number in range(10, 100)] + [""])
     for doubts, text in DOUBTS:
         check(f"the status of {text!r}", said(text, doubts)[0], 0)
     cached = TENANT + "[tenant.tail_sampling.decision_cache]\nsampled_cache_size = 2\nnon_sampled_cache_size = 1\n"

@@ -1,5 +1,5 @@
 -- The keys of a document's tables that no setting has. `tail_settings` reads past them. This project's own rule.
-use Rattle.std.specs.Prelude.{codes, ℕ, ◌+◌, List, [], ◌∷◌, ◌++◌, Option, unwrap_or, option_and_then, if◌then◌else◌}
+use Rattle.std.specs.Prelude.{codes, ℕ, ◌+◌, List, [], ◌∷◌, ◌++◌, take, Option, unwrap_or, option_and_then, if◌then◌else◌}
 use Rattle.std.specs.Fmt.{decimal}
 use Rattle.toml.specs.Data.{Data, Items, no_items, item, Members, no_members, member, get_member, as_str, as_array, as_table}
 use Rattle.settings_check.specs.declared.table.TableKind.{TableKind}
@@ -36,10 +36,14 @@ unknown_in place kind (member key d rest) =
     if is_known kind key then unknown_in place kind rest
     else record { place = place; kind = kind; key = key } ∷ unknown_in place kind rest
 
+-- a tenant's name, no more of it than a name may have: it stands before each of its tenant's warnings, and one of any
+-- length would make a report of as many bytes as it has, times the warnings
+abbrev pub name_shown : Members → List ℕ
+name_shown tenant = shown (take 64 (unwrap_or (text_in (codes "name") tenant) []))
+
 -- a tenant's number, from 1, and its name
 abbrev pub tenant_words : ℕ → Members → List ℕ
-tenant_words number tenant =
-    codes "tenant " ++ decimal number ++ codes " (" ++ shown (unwrap_or (text_in (codes "name") tenant) []) ++ codes ")"
+tenant_words number tenant = codes "tenant " ++ decimal number ++ codes " (" ++ name_shown tenant ++ codes ")"
 
 -- the kind of a policy's table
 abbrev pub kind_of : Members → TableKind

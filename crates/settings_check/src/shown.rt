@@ -28,8 +28,15 @@ fn put_byte(alloc: Global, out: &mut String, byte: u8) -> Result<(), AllocError>
 pub fn shown(alloc: Global, text: &str) -> Result<String, AllocError>
     ensures { IfOk result (λ line. string_bytes line ≡ shown text.now) }
 {
+    shown_bytes(alloc, text.as_bytes())
+}
+
+/// The bytes of a text, or of a piece of one, as they are shown.
+pub fn shown_bytes(alloc: Global, text: &[u8]) -> Result<String, AllocError>
+    ensures { IfOk result (λ line. string_bytes line ≡ shown text.now) }
+{
     let mut line = String::new(alloc);
-    for byte in text.as_bytes() {
+    for byte in text {
         put_byte(alloc, &mut line, *byte)?;
     }
     Ok(line)

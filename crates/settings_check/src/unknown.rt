@@ -4,13 +4,13 @@ ghost use Rattle.std.specs.Prelude.{◌≡◌, ◌++◌, [], codes, unwrap_or, I
 ghost use Rattle.std.specs.Fmt.{decimal};
 ghost use Rattle.toml.specs.View.{table_view, items_view};
 ghost use Rattle.tail_settings.specs.Keys.{keys_of};
-ghost use Rattle.settings_check.specs.Unknown.{text_in, tenant_words, kind_of, sub_policies_of, unknown_in, unknown_in_leaves, unknown_in_policy, unknown_in_policies, unknown_in_cache, unknown_in_sampling, unknown_in_section, unknown_in_tenants, unknown_of};
+ghost use Rattle.settings_check.specs.Unknown.{text_in, name_shown, tenant_words, kind_of, sub_policies_of, unknown_in, unknown_in_leaves, unknown_in_policy, unknown_in_policies, unknown_in_cache, unknown_in_sampling, unknown_in_section, unknown_in_tenants, unknown_of};
 ghost use Rattle.settings_check.specs.Warning.{name_here, meant_of, hint_text, warning_text, warnings};
 ghost use Rattle.settings_check.specs.Table.{keys_of_kind};
 
 use crate::hint::{meant, name_here};
 use crate::read;
-use crate::shown::shown;
+use crate::shown::{shown, shown_bytes};
 use crate::table::{TableKind, find_among};
 use std::alloc::{AllocError, Global};
 use toml::{Table, Value};
@@ -239,6 +239,9 @@ fn warn_in_section(
     warn_in(alloc, out, retry.as_str(), TableKind::RetryOnFailure, table)
 }
 
+/// No name that may be has more bytes.
+const LONGEST_NAME: usize = 64;
+
 /// A tenant's name, as far as it has one.
 fn name<'a>(tenant: Option<&'a Table>) -> &'a str
     ensures { result.now ≡ unwrap_or (text_in (codes "name") (keys_of tenant.entry)) [] }
@@ -247,6 +250,15 @@ fn name<'a>(tenant: Option<&'a Table>) -> &'a str
         Some(name) => name,
         None => "",
     }
+}
+
+/// A tenant's name as it is shown, no more of it than a name may have.
+#[tactic(auto, using(std::proofs::lemmas::List::take_min))]
+fn name_shown(alloc: Global, tenant: Option<&Table>) -> Result<String, AllocError>
+    ensures { IfOk result (λ line. string_bytes line ≡ name_shown (keys_of tenant.entry)) }
+{
+    let name = name(tenant).as_bytes();
+    shown_bytes(alloc, &name[..LONGEST_NAME.min(name.len())])
 }
 
 /// A tenant's number, from 1, and its name.
@@ -258,7 +270,7 @@ pub fn tenant_words(
     ensures { IfOk result (λ words. string_bytes words ≡ tenant_words number
         (keys_of tenant.entry)) }
 {
-    let name = shown(alloc, name(tenant))?;
+    let name = name_shown(alloc, tenant)?;
     let words = format!(in alloc; "tenant {number} ({name})")?;
     Ok(words)
 }

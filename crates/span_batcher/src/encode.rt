@@ -370,26 +370,42 @@ pub fn encode_batch(
 /// The most bytes of a field's tag and length.
 const FRAME: usize = 6;
 
-/// The bytes round the spans of one scope of one resource.
-fn room_around(texts: &TextPool, span: &StoredSpan) -> usize {
+/// The bytes of a span's resource, and of its schema's URL, round what stands in it.
+fn room_of_resource(texts: &TextPool, span: &StoredSpan) -> usize {
     let resource = resource_of(texts, span).map_or(0, |text| text.len());
-    let scope = scope_of(texts, span).map_or(0, |text| text.len());
-    let urls = resource_url_of(texts, span)
-        .len()
-        .saturating_add(scope_url_of(texts, span).len());
     resource
-        .saturating_add(scope)
-        .saturating_add(urls)
-        .saturating_add(6 * FRAME)
+        .saturating_add(resource_url_of(texts, span).len())
+        .saturating_add(3 * FRAME)
 }
 
-/// Room for a batch's text, so that it needn't grow: the largest batch must find memory in one piece, not in two.
+/// The bytes of a span's scope, and of its schema's URL, round what stands in it.
+fn room_of_scope(texts: &TextPool, span: &StoredSpan) -> usize {
+    let scope = scope_of(texts, span).map_or(0, |text| text.len());
+    scope
+        .saturating_add(scope_url_of(texts, span).len())
+        .saturating_add(3 * FRAME)
+}
+
+/// Whether a span has another resource than the one before it, by their keys, so that it is written once more.
+fn has_other_resource(span: &StoredSpan, before: &StoredSpan) -> bool {
+    let (keys, other) = (span.keys(), before.keys());
+    keys.resource != other.resource || keys.resource_schema_url != other.resource_schema_url
+}
+
+/// Room for a batch's text, so that it needn't grow: the largest batch must find memory in one piece, not in two. A
+/// resource that neighbours share stands there once, however many scopes it has.
 fn room_for(texts: &TextPool, blocks: &[Block<'_>]) -> usize {
     let mut room = 0usize;
+    let mut before: Option<&StoredSpan> = None;
     for block in blocks {
+        let first = block.first_span();
+        if before.map_or(true, |before| has_other_resource(first, before)) {
+            room = room.saturating_add(room_of_resource(texts, first));
+        }
         room = room
-            .saturating_add(room_around(texts, block.first_span()))
+            .saturating_add(room_of_scope(texts, first))
             .saturating_add(block.bytes());
+        before = Some(first);
     }
     room
 }
