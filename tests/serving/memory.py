@@ -250,4 +250,23 @@ def late_spans_leave_nothing(folder):
     check(f"{told[-1] - told[1]} bytes more, at most {KEPT}", told[-1] - told[1] <= KEPT, True)
 
 
-TESTS = (late_spans_leave_nothing, refused_while_made_ready, most_while_made_ready, many_large_bodies, bodies_that_nobody_wants)
+# A resource of so many bytes has two scopes that take turns, so many times, with a span each. Where room for the batch were
+# asked for by scopes, this were 820 MB; so many bytes of addresses more it may take, which threads' heaps reserve too.
+RESOURCE, TURNS, ADDRESSES = 100_000, 4_096, 400_000_000
+
+
+def a_resource_has_room_once(folder):
+    """A batch in which two scopes of a large resource take turns leaves, and room was asked for its resource once."""
+    resource = piece(1, piece(1, piece(1, b"a" * RESOURCE)))
+    scopes = b"".join(piece(2, piece(1, piece(1, name)) + SPAN) for name in (b"one", b"other"))
+    with BackEnd() as back_end, Service(folder, [tenant("a", back_end)], shards=1, receivers=1, senders=1, parts=1) as service:
+        service.post("a", body(2, 2))
+        wait_for(lambda: "exported=1 " in service.report("a"), "the first batch is sent")
+        before = bytes_of(service.run.pid, "VmPeak")
+        check("it is taken", service.post("a", piece(1, resource + scopes * TURNS)), (200, b""))
+        wait_for(lambda: f"exported={2 * TURNS + 1} " in service.report("a"), "it is sent")
+        more = bytes_of(service.run.pid, "VmPeak") - before
+    check(f"{more} bytes of addresses more, at most {ADDRESSES}", more <= ADDRESSES, True)
+
+
+TESTS = (a_resource_has_room_once, late_spans_leave_nothing, refused_while_made_ready, most_while_made_ready, many_large_bodies, bodies_that_nobody_wants)
