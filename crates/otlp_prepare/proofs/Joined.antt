@@ -12,9 +12,10 @@ use Rattle.tail_policy.specs.Parts.{resource_bits_of, with_resource, by_parts}
 use Rattle.tenant_rules.specs.Arrivals.{Arrival}
 use Rattle.otlp_prepare.specs.Origin.{OriginTexts}
 use Rattle.otlp_prepare.specs.declared.noted.NotedSpan.{NotedSpan}
-use Rattle.otlp_prepare.specs.Arrivals.{origin_at, arrivals_in}
+use Rattle.otlp_prepare.specs.Arrivals.{origin_at, arrivals_in, AreGrouped}
 use Rattle.otlp_prepare.specs.Prepared.{IsReady, AreReady}
 use Rattle.otlp_prepare.specs.BodySpans.{UnnotedSpanData, part_arrival, part_arrivals, own_note, with_note, noted, IsFound, AreFound}
+use Rattle.otlp_prepare.proofs.Grouped.{is_grouped}
 use Rattle.otlp_prepare.proofs.Lists.{every_mapped}
 
 -- a span with the note that it has by itself
@@ -28,26 +29,27 @@ joined policies (part ∷ parts) own is =
     ap (λ (ns : List TraceNote). map both_parts (zip (part ∷ parts) ns)) is
     ∙ ap (λ (spans : List NotedSpan). noted policies part ∷ spans) (joined policies parts (map (own_note policies) parts) refl)
 
-ready : (policies : List PolicyData) (origins : List OriginTexts) (part : UnnotedSpanData) → IsFound policies origins part
+ready : (policies : List PolicyData) (origins : List OriginTexts) (part : UnnotedSpanData) → AreGrouped origins → IsFound policies origins part
     → IsReady policies origins (noted policies part)
-ready policies origins part is = record {
+ready policies origins part grouped is = record {
   note = notes_of_texts (note_of policies) (resource_bits_of policies) with_resource (by_parts policies) part.text (bytes_of (origin_at origins part.origin).resource) part.bits is.bits;
   trace = is.trace;
   valid = is.valid;
   within = is.within;
+  grouped = is_grouped origins part.origin grouped is.within;
   short = is.short;
 }
 
-all_ready : (policies : List PolicyData) (origins : List OriginTexts) (parts : List UnnotedSpanData) → AreFound policies origins parts
+all_ready : (policies : List PolicyData) (origins : List OriginTexts) (parts : List UnnotedSpanData) → AreGrouped origins → AreFound policies origins parts
     → AreReady policies origins (map (noted policies) parts)
-all_ready policies origins parts are =
-    every_mapped (IsFound policies origins) (IsReady policies origins) (noted policies) (λ part is. ready policies origins part is) parts are
+all_ready policies origins parts grouped are =
+    every_mapped (IsFound policies origins) (IsReady policies origins) (noted policies) (λ part is. ready policies origins part grouped is) parts are
 
 -- the spans that were noted are ready
 pub are_ready : (policies : List PolicyData) (origins : List OriginTexts) (parts : List UnnotedSpanData) (spans : List NotedSpan)
-    → spans ≡ map (noted policies) parts → AreFound policies origins parts → AreReady policies origins spans
-are_ready policies origins parts spans is are =
-    subst (AreReady policies origins) (sym is) (all_ready policies origins parts are)
+    → spans ≡ map (noted policies) parts → AreGrouped origins → AreFound policies origins parts → AreReady policies origins spans
+are_ready policies origins parts spans is grouped are =
+    subst (AreReady policies origins) (sym is) (all_ready policies origins parts grouped are)
 
 -- and have arrived as they were found
 pub noted_arrivals : (policies : List PolicyData) (origins : List OriginTexts) (parts : List UnnotedSpanData)

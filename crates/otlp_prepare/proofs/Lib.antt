@@ -4,5 +4,6 @@ mod Read
 mod Empty
 mod Adding
 mod Gathered
+mod Grouped
 mod Joined
 mod Valued

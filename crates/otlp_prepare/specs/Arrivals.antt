@@ -1,5 +1,5 @@
 -- The valid spans of a body as they arrive, each with what stands round it as canonical text (OTLP 1.x's trace.proto).
-use Rattle.std.specs.Prelude.{ℕ, List, Option, None, map, option_map, filter, flat_map, slice_index_or}
+use Rattle.std.specs.Prelude.{◌≡◌, ◌<◌, ◌≤◌, ℕ, List, Option, None, map, option_map, filter, flat_map, length, slice_index_or}
 use Rattle.otlp_trace.specs.Data.{SpanData, ResourceData, ScopeSpansData, ResourceSpansData, RequestData}
 use Rattle.otlp_trace.specs.Text.{span_text, scope_text, resource_text}
 use Rattle.otlp_parts.specs.Texts.{is_valid_span}
@@ -51,11 +51,30 @@ origin_view o = record {
 
 -- nothing stands round a span
 abbrev pub no_origin : OriginTexts
-no_origin = record { resource = None; resource_schema_url = None; scope = None; scope_schema_url = None }
+no_origin = record { first = 0; resource = None; resource_schema_url = None; scope = None; scope_schema_url = None }
 
 -- the origin at an index, and one of no texts where there is none
 abbrev pub origin_at : List OriginTexts → ℕ → OriginData
 origin_at origins index = origin_view (slice_index_or origins index no_origin)
+
+-- the index of the first origin of the same resource spans
+abbrev pub first_at : List OriginTexts → ℕ → ℕ
+first_at origins index = (slice_index_or origins index no_origin).first
+
+-- both have the same resource with the same schema
+pub record HasSameResource (one other : OriginData) : Type 0 where
+  pub resource : one.resource ≡ other.resource
+  pub schema_url : one.resource_schema_url ≡ other.resource_schema_url
+
+-- each origin has the resource of the first one of its resource spans, which doesn't come after it
+abbrev pub AreGrouped : List OriginTexts → Type 0
+AreGrouped origins = (index : ℕ) → index < length origins → (first_at origins index ≤ index)
+    × HasSameResource (origin_at origins index) (origin_at origins (first_at origins index))
+
+-- those of one resource spans have the same resource as this one
+abbrev pub IsGrouped : List OriginTexts → ℕ → Type 0
+IsGrouped origins index = (other : ℕ) → other < length origins → first_at origins other ≡ first_at origins index
+    → HasSameResource (origin_at origins other) (origin_at origins index)
 
 -- a span of this origin and text, by its texts
 abbrev pub arrival_with : OriginData → List ℕ → Arrival

@@ -20,7 +20,7 @@ use Rattle.tail_policy.specs.Parts.{resource_bits_of, with_resource}
 use Rattle.tenant_rules.specs.Arrivals.{Arrival, is_valid}
 use Rattle.otlp_prepare.specs.Origin.{OriginTexts}
 use Rattle.otlp_prepare.specs.declared.noted.NotedSpan.{NotedSpan}
-use Rattle.otlp_prepare.specs.Arrivals.{arrival_with, origin_at}
+use Rattle.otlp_prepare.specs.Arrivals.{arrival_with, origin_at, AreGrouped}
 
 -- ---- a body by its texts
 
@@ -120,6 +120,26 @@ pub record Adds (policies : List PolicyData) (arrivals : List Arrival) (origins 
   pub found : AreFound policies origins' parts'
   pub whole : part_arrivals origins' parts' ≡ part_arrivals origins parts ++ arrivals
   pub sparing : length origins' + length parts ≤ length origins + length parts'
+
+-- ---- origins of one resource spans
+
+-- each origin has the resource of the first one of its resource spans, and where the one at this index is there, it has
+-- this resource
+pub record IsGroupOf (first : ℕ) (resource schema_url : Option (List ℕ)) (origins : List OriginTexts) : Type 0 where
+  pub grouped : AreGrouped origins
+  pub by : first ≤ length origins
+  pub resource_is : first < length origins → (origin_at origins first).resource ≡ resource
+  pub schema_url_is : first < length origins → (origin_at origins first).resource_schema_url ≡ bytes_of schema_url
+
+-- it still holds of the origins that there are now
+abbrev pub KeepsGroup : (first : ℕ) → (resource schema_url : Option (List ℕ)) → List OriginTexts → List OriginTexts
+    → Type 0
+KeepsGroup first resource schema_url origins origins' =
+    IsGroupOf first resource schema_url origins → IsGroupOf first resource schema_url origins'
+
+-- the origins of one resource spans had the same resource, and still have
+abbrev pub KeepsGrouped : List OriginTexts → List OriginTexts → Type 0
+KeepsGrouped origins origins' = AreGrouped origins → AreGrouped origins'
 
 -- ---- texts that were read
 

@@ -14,7 +14,7 @@ use Rattle.otlp_prepare.specs.Origin.{OriginTexts}
 use Rattle.otlp_prepare.specs.declared.noted.NotedSpan.{NotedSpan}
 use Rattle.otlp_prepare.specs.declared.refusal.Refusal.{Refusal}
 use Rattle.otlp_prepare.specs.declared.refusal.Refusal.TheVariants as refusal
-use Rattle.otlp_prepare.specs.Arrivals.{arrivals_of, arrival_in}
+use Rattle.otlp_prepare.specs.Arrivals.{arrivals_of, arrival_in, IsGrouped}
 
 -- a body that was read: whose it is, the policies that its tenant had then, its valid spans, and how many of its spans
 -- aren't valid. The notes of its spans follow from it
@@ -37,12 +37,14 @@ prepared_of tenant section request = record {
 abbrev pub IsPrepared : ℕ → SectionData → List ℕ → PreparedData → Type 0
 IsPrepared tenant section body prepared = (v : RequestData) × IsValue body v × (prepared ≡ prepared_of tenant section v)
 
--- a span is valid, its origin is one of these, and its note is that of the span with its resource for these policies
+-- a span is valid, its origin is one of these, with the resource of the others of its resource spans, and its note is
+-- that of the span with its resource for these policies
 pub record IsReady (policies : List PolicyData) (origins : List OriginTexts) (span : NotedSpan) : Type 0 where
   pub note : span.note ≡ note_of policies (arrival_in origins span).facts
   pub trace : span.trace ≡ trace_of (arrival_in origins span)
   pub valid : is_valid (arrival_in origins span) ≡ true
   pub within : span.origin < length origins
+  pub grouped : IsGrouped origins span.origin
   pub short : length span.text < 2 ^ 64
 
 -- each of them is

@@ -79,8 +79,9 @@ fn prepare_parts<R: Threads + Sync>(
 
 /// Reads a body, a request in protobuf, for the tenant with this number and section, and makes the notes of its spans
 /// in at most `parts` threads, 1 to 16, this one among them. It waits only for threads that it started. What is
-/// prepared names the tenant and shares the section's policies, which takes no memory; its texts are slices of the body
-/// where these make up half of it. A body of 2^32 bytes or more is refused as memory is.
+/// prepared names the tenant and shares the section's policies, which takes no memory; texts of its spans are slices of
+/// the body where those that can be make up half of it, and all others are copies. A body of 2^32 bytes or more is
+/// refused as memory is.
 pub fn prepare<R: Threads + Sync>(
     rt: &R,
     alloc: Global,

@@ -5,8 +5,8 @@ ghost use Rattle.std.specs.List.{AllByRecursion, flat_map};
 ghost use Rattle.otlp_read.specs.RoundTrip.{IsShort};
 ghost use Rattle.otlp_parts.specs.Parts.{body_parts_view, resource_parts_view, scope_parts_view, scopes_in, spans_in};
 ghost use Rattle.span_pool.specs.Stored.{bytes_of};
-ghost use Rattle.otlp_prepare.specs.Arrivals.{origin_view};
-ghost use Rattle.otlp_prepare.specs.BodySpans.{IsValidRead, IsScopeRead, IsResourceRead, IsGroupRead, AreRead, IsAround, part_with, AreFound, Adds, part_arrivals, arrivals_in_resource, arrivals_in_body, AddsAround, arrivals_around, arrivals_around_all};
+ghost use Rattle.otlp_prepare.specs.Arrivals.{origin_view, AreGrouped};
+ghost use Rattle.otlp_prepare.specs.BodySpans.{IsValidRead, IsScopeRead, IsResourceRead, IsGroupRead, AreRead, IsAround, part_with, AreFound, Adds, part_arrivals, arrivals_in_resource, arrivals_in_body, AddsAround, arrivals_around, arrivals_around_all, KeepsGroup, KeepsGrouped};
 
 use crate::noted::SpanOrigin;
 use crate::reversed::first_of;
@@ -35,13 +35,16 @@ pub struct BodySpans {
 /// What stands round the spans of a resource, but for their scope.
 #[derive(Drop)]
 struct ResourceOrigin {
+    // Which of the body's origins is the first one of this resource spans, once there is one.
+    first: u32,
     resource: Option<SharedBytes>,
     schema_url: Option<SharedBytes>,
     // What the resource tells the policies.
     bits: ResourceBits,
 }
 
-/// These bytes with their digest, or the last text where that has the same.
+/// These bytes with their digest, or the last text where that has the same. They are copied: who keeps them would keep
+/// the whole body otherwise, and a resource comes in body after body.
 #[tactic(auto, using(otlp_parts::proofs::Same::the_same_text))]
 fn shared_text(
     alloc: Global,
@@ -55,7 +58,7 @@ fn shared_text(
             return last.shared();
         }
     }
-    SharedBytes::of(alloc, bytes.shared()?)
+    SharedBytes::of(alloc, TextSlice::copy_from_slice(alloc, bytes.as_slice())?)
 }
 
 /// The same text with its digest, where there is one.
@@ -106,19 +109,31 @@ fn resource_told(
     policies.resource_note(bytes_in(resource))
 }
 
+/// The index of an origin to come. Where that is 2^32 or more it is refused as memory is.
+fn next_index(origins: &[SpanOrigin]) -> Result<u32, AllocError>
+    ensures { IfOk result (λ index. index ≡ length origins.now) }
+{
+    let Ok(index) = u32::try_from(origins.len()) else {
+        return Err(AllocError);
+    };
+    Ok(index)
+}
+
 /// What stands round the spans of a resource, but for their scope. Texts that are the same as in the last origin are
 /// shared with it.
 fn outer_of(
     alloc: Global,
+    first: u32,
     resource: &PartText,
     schema_url: &PartText,
     bits: ResourceBits,
     last: Option<&SpanOrigin>,
 ) -> Result<ResourceOrigin, AllocError>
     ensures { IfOk result (λ outer. (outer.resource ≡ resource.now)
-        × (outer.schema_url ≡ schema_url.now) × (outer.bits ≡ bits)) }
+        × (outer.schema_url ≡ schema_url.now) × (outer.bits ≡ bits) × (outer.first ≡ first)) }
 {
     Ok(ResourceOrigin {
+        first,
         resource: text_of(alloc, resource, last.and_then(|last| last.resource()))?,
         schema_url: text_of(
             alloc,
@@ -182,13 +197,14 @@ fn origin_of(
     schema_url: &PartText,
     last: Option<&SpanOrigin>,
 ) -> Result<SpanOrigin, AllocError>
-    ensures { IfOk result (λ origin. origin_view origin ≡
+    ensures texts { IfOk result (λ origin. origin_view origin ≡
         record {
           resource = outer.now.resource;
           resource_schema_url = bytes_of outer.now.schema_url;
           scope = scope.now;
           scope_schema_url = bytes_of schema_url.now;
         }) }
+    ensures first { IfOk result (λ origin. origin.first ≡ outer.now.first) }
 {
     let resource = again(&outer.resource)?;
     let resource_schema_url = again(&outer.schema_url)?;
@@ -200,6 +216,7 @@ fn origin_of(
     )?;
     let other = any_text(alloc, empty, &resource, &scope)?;
     SpanOrigin::of(
+        outer.first,
         &other,
         resource,
         resource_schema_url,
@@ -256,10 +273,12 @@ fn add_scope(
     scope: ScopeParts,
 ) -> Result<(), AllocError>
     requires read { IsScopeRead (scope_parts_view scope) }
-    ensures { OnOk result (AddsAround outer.now.resource outer.now.bits
+    ensures adds { OnOk result (AddsAround outer.now.resource outer.now.bits
         (arrivals_around outer.now.resource outer.now.schema_url (scope_parts_view scope))
         found.old.origins.items found.old.parts.items found.new.origins.items
         found.new.parts.items) }
+    ensures grouped { OnOk result (KeepsGroup outer.now.first outer.now.resource
+        outer.now.schema_url found.old.origins.items found.new.origins.items) }
 {
     if scope.spans.is_empty() {
         return Ok(());
@@ -287,10 +306,12 @@ fn add_scopes(
     scopes: Vec<ScopeParts>,
 ) -> Result<(), AllocError>
     requires read { AllByRecursion IsScopeRead (map scope_parts_view scopes.items) }
-    ensures { OnOk result (AddsAround outer.now.resource outer.now.bits
+    ensures adds { OnOk result (AddsAround outer.now.resource outer.now.bits
         (arrivals_around_all outer.now.resource outer.now.schema_url scopes.items)
         found.old.origins.items found.old.parts.items found.new.origins.items
         found.new.parts.items) }
+    ensures grouped { OnOk result (KeepsGroup outer.now.first outer.now.resource
+        outer.now.schema_url found.old.origins.items found.new.origins.items) }
 {
     for scope in scopes {
         add_scope(alloc, found, outer, scope)?;
@@ -307,9 +328,12 @@ fn add_resource(
 ) -> Result<(), AllocError>
     requires read { IsGroupRead (resource_parts_view group) }
     requires found { AreFound policies.now found.old.origins.items found.old.parts.items }
-    ensures { OnOk result (Adds policies.now (arrivals_in_resource (resource_parts_view group))
+    ensures adds { OnOk result (Adds policies.now
+        (arrivals_in_resource (resource_parts_view group))
         found.old.origins.items found.old.parts.items found.new.origins.items
         found.new.parts.items) }
+    ensures grouped { OnOk result (KeepsGrouped found.old.origins.items
+        found.new.origins.items) }
 {
     let ResourceParts {
         resource,
@@ -317,7 +341,9 @@ fn add_resource(
         scopes,
     } = group;
     let bits = resource_told(policies, &resource)?;
-    let outer = outer_of(alloc, &resource, &schema_url, bits, found.origins.last())?;
+    let first = next_index(found.origins.as_slice())?;
+    let last = found.origins.last();
+    let outer = outer_of(alloc, first, &resource, &schema_url, bits, last)?;
     match scopes {
         ScopeList::One(scope) => add_scope(alloc, found, &outer, scope),
         ScopeList::More(scopes) => add_scopes(alloc, found, &outer, scopes),
@@ -333,10 +359,12 @@ fn add_resources(
 ) -> Result<(), AllocError>
     requires read { AllByRecursion IsGroupRead (map resource_parts_view groups.items) }
     requires found { AreFound policies.now found.old.origins.items found.old.parts.items }
-    ensures { OnOk result (Adds policies.now
+    ensures adds { OnOk result (Adds policies.now
         (flat_map arrivals_in_resource (map resource_parts_view groups.items))
         found.old.origins.items found.old.parts.items found.new.origins.items
         found.new.parts.items) }
+    ensures grouped { OnOk result (KeepsGrouped found.old.origins.items
+        found.new.origins.items) }
 {
     for group in groups {
         add_resource(alloc, policies, found, group)?;
@@ -360,6 +388,7 @@ pub fn found_in(
         (body_parts_view body)) }
     ensures sparing { IfOk result (λ found. length found.origins.items
         ≤ length found.parts.items) }
+    ensures grouped { IfOk result (λ found. AreGrouped found.origins.items) }
 {
     let mut found = BodySpans {
         origins: Vec::new(alloc),

@@ -11,7 +11,7 @@ use text_pool::SharedBytes;
 use text_slice::TextSlice;
 
 /// The texts that the spans of one scope of one resource share: canonical, each with its digest. It takes 40 bytes, and
-/// whoever shares a text takes no more.
+/// whoever shares a text takes no more. The origins of one resource spans are known by the index of their first one.
 #[derive(Debug, Drop)]
 pub struct SpanOrigin {
     // Where one is missing, any other stands in its place.
@@ -19,7 +19,9 @@ pub struct SpanOrigin {
     resource_schema_url: SharedBytes,
     scope: SharedBytes,
     scope_schema_url: SharedBytes,
-    // Which of them are there.
+    // Which of the body's origins is the first one of the same resource spans.
+    first: u32,
+    // Which of the texts are there.
     has_resource: bool,
     has_resource_schema_url: bool,
     has_scope: bool,
@@ -32,6 +34,7 @@ impl Model for SpanOrigin {
     ghost Value = { OriginTexts };
 
     ghost view = { λ o. record {
+      first = o.first;
       resource = text_if o.has_resource o.resource;
       resource_schema_url = text_if o.has_resource_schema_url o.resource_schema_url;
       scope = text_if o.has_scope o.scope;
@@ -60,8 +63,10 @@ fn text_if(there: bool, text: &SharedBytes) -> Option<&SharedBytes>
 }
 
 impl SpanOrigin {
-    /// These texts, as far as they are there. Another one stands in the place of those that are missing.
+    /// These texts, as far as they are there, with the index of the first origin of the same resource spans. Another
+    /// one stands in the place of those that are missing.
     pub(crate) fn of(
+        first: u32,
         other: &SharedBytes,
         resource: Option<SharedBytes>,
         resource_schema_url: Option<SharedBytes>,
@@ -70,6 +75,7 @@ impl SpanOrigin {
     ) -> Result<SpanOrigin, AllocError>
         ensures { IfOk result (λ origin. origin ≡
             record {
+              first = first;
               resource = resource;
               resource_schema_url = resource_schema_url;
               scope = scope;
@@ -85,11 +91,20 @@ impl SpanOrigin {
             resource_schema_url,
             scope,
             scope_schema_url,
+            first,
             has_resource,
             has_resource_schema_url,
             has_scope,
             has_scope_schema_url,
         })
+    }
+
+    /// Which of the body's origins is the first one of the same resource spans. Those of one resource spans have the
+    /// same resource, and the same URL of its schema.
+    pub fn first(&self) -> u32
+        ensures { result ≡ self.now.first }
+    {
+        self.first
     }
 
     /// The resource's.

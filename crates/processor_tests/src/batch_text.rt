@@ -4,8 +4,7 @@
 ghost use Rattle.processor_tests.specs.BatchTexts.{Requests, ReadablePlaces};
 
 use crate::lines::{cut, parts, small};
-use bytes::Bytes;
-use span_batcher::{batches_are_requests, encode_batch};
+use span_batcher::{BatchText, batches_are_requests};
 use span_pool::{SharedKeys, StoredSpan, TextKeys};
 use std::alloc::{AllocError, Global};
 use std::test::Fail;
@@ -77,19 +76,26 @@ fn all_spelled(
     Ok(spans)
 }
 
-fn encoded(alloc: Global, pool: &TextPool, spans: &[StoredSpan]) -> Result<Bytes, AllocError> {
+/// Whether the batch of these spans has these bytes, and says how many they are before it is written.
+fn is_batch(
+    alloc: Global,
+    pool: &TextPool,
+    spans: &[StoredSpan],
+    bytes: &[u8],
+) -> Result<bool, AllocError> {
     let mut lent = Vec::new(alloc);
     for span in spans {
         lent.push(span)?;
     }
-    encode_batch(alloc, pool, lent.as_slice())
+    let batch = BatchText::of(alloc, pool, lent.as_slice())?;
+    Ok(batch.size() == bytes.len() && batch.write(alloc)?.as_slice() == bytes)
 }
 
-/// What these spans are sent as.
-fn sent(alloc: Global, text: &str) -> Result<Bytes, AllocError> {
+/// Whether these spans are sent as these bytes.
+fn are_sent_as(alloc: Global, text: &str, bytes: &[u8]) -> Result<bool, AllocError> {
     let mut pool = TextPool::new(alloc);
     let spans = all_spelled(alloc, &mut pool, text)?;
-    encoded(alloc, &pool, spans.as_slice())
+    is_batch(alloc, &pool, spans.as_slice(), bytes)
 }
 
 /// The bytes of a batch by a name.
@@ -157,7 +163,7 @@ fn spans_are_sent_with_their_resources_and_scopes(rt: HostRuntime) -> Result<(),
     for line in BATCHES.lines() {
         let (spans, name) = cut(line, " = ");
         assert!(rt;
-            sent(rt.alloc(), spans)?.as_slice() == bytes_of(name),
+            are_sent_as(rt.alloc(), spans, bytes_of(name))?,
             "at {line}"
         );
     }
@@ -167,8 +173,8 @@ fn spans_are_sent_with_their_resources_and_scopes(rt: HostRuntime) -> Result<(),
 #[test]
 fn no_spans_are_no_bytes(rt: HostRuntime) -> Result<(), Fail> {
     let pool = TextPool::new(rt.alloc());
-    let spans: [&StoredSpan; 0] = [];
-    assert!(rt; encode_batch(rt.alloc(), &pool, spans.as_slice())?.is_empty());
+    let spans: [StoredSpan; 0] = [];
+    assert!(rt; is_batch(rt.alloc(), &pool, spans.as_slice(), b"")?);
     batches_are_requests();
     Ok(())
 }

@@ -1,20 +1,19 @@
-//! The text of a batch.
+//! What blocks are written as, run by run, and in how many bytes.
 
 ghost use Rattle.std.specs.Prelude.{◌≡◌, ◌^◌, ◌-◌, ◌<◌, ◌≤◌, ◌++◌, ◌∷◌, ◌==◌, ℕ, Bool, List, length, take, drop, flat_map, IfOk, OnOk, option_copied};
 ghost use Rattle.pb_wire.specs.Text.{tag_text, varint_text};
 ghost use Rattle.otlp_trace.specs.Text.{embedded, repeated};
 ghost use Rattle.span_pool.specs.Stored.{SpanTexts, text_at, bytes_of, same_bytes, same_text};
-ghost use Rattle.span_batcher.specs.ExportText.{runs, same_resource, same_scope, scope_spans_field, resource_spans_field, export_text};
-ghost use Rattle.span_batcher.specs.Texts.{texts_in, span_in, spans_in};
+ghost use Rattle.span_batcher.specs.ExportText.{runs, same_resource, same_scope, scope_spans_field, resource_spans_field};
+ghost use Rattle.span_batcher.specs.Texts.{texts_in, span_in};
 ghost use Rattle.span_batcher.specs.Blocks.{own_texts, placed, alike, fields_in, scope_content, resource_content, capped};
 
-use crate::block::{Block, blocks_of};
+use crate::block::Block;
 use crate::size::{embedded_size, field_size, url_size};
-use bytes::Bytes;
 use otlp_trace::{put_bytes_field, put_some_bytes};
 use pb_wire::{WireType, put_tag, put_varint};
 use span_pool::{Owned, StoredSpan};
-use std::alloc::{AllocError, Global};
+use std::alloc::AllocError;
 use text_pool::TextPool;
 use text_slice::TextSlice;
 
@@ -162,7 +161,7 @@ fn blocks_size(blocks: &[Block<'_>]) -> usize
     size
 }
 
-/// What neighbours share, and what is written of those that share it.
+/// What neighbours share, what is written of those that share it, and in how many bytes.
 pub trait Level {
     ghost same: { SpanTexts → SpanTexts → Bool };
 
@@ -170,6 +169,9 @@ pub trait Level {
 
     fn is_same(texts: &TextPool, one: &StoredSpan, other: &StoredSpan) -> bool
         ensures { result ≡ same (span_in texts.now one.now) (span_in texts.now other.now) };
+
+    fn size(texts: &TextPool, blocks: &[Block<'_>]) -> usize
+        ensures { result ≡ capped (length (field (placed texts.now blocks.now))) };
 
     fn put(out: &mut Vec<u8>, texts: &TextPool, blocks: &[Block<'_>]) -> Result<(), AllocError>
         ensures { OnOk result (out.new.items ≡ out.old.items ++ field
@@ -197,8 +199,25 @@ fn leading<L: Level>(texts: &TextPool, blocks: &[Block<'_>]) -> usize
     last + 1
 }
 
+/// How many bytes the blocks take, run by run.
+pub fn runs_size<L: Level>(texts: &TextPool, blocks: &[Block<'_>]) -> usize
+    ensures { result ≡ capped (length (fields_in texts.now L.same L.field blocks.now)) }
+{
+    let mut size = 0usize;
+    let mut start = 0;
+    while start < blocks.len() {
+        let (_, left) = blocks.split_at(start);
+        let count = leading::<L>(texts, left);
+        let (run, _) = left.split_at(count);
+        let more = L::size(texts, run);
+        size = size.saturating_add(more);
+        start += count;
+    }
+    size
+}
+
 /// Appends the blocks run by run.
-fn put_runs<L: Level>(
+pub fn put_runs<L: Level>(
     out: &mut Vec<u8>,
     texts: &TextPool,
     blocks: &[Block<'_>],
@@ -230,34 +249,6 @@ fn scope_size(texts: &TextPool, first: &StoredSpan, blocks: &[Block<'_>]) -> usi
         .saturating_add(url_size(scope_url_of(texts, first)))
 }
 
-/// How many bytes the blocks, which have one scope, take as a `ScopeSpans`.
-fn scope_spans_size(texts: &TextPool, blocks: &[Block<'_>]) -> usize
-    ensures { result ≡ capped (length (scope_spans_field (placed texts.now blocks.now))) }
-{
-    let Some(block) = blocks.first() else {
-        return 0;
-    };
-    field_size(scope_size(texts, block.first_span(), blocks))
-}
-
-/// How many bytes the blocks take, scope by scope.
-fn scopes_size(texts: &TextPool, blocks: &[Block<'_>]) -> usize
-    ensures { result ≡ capped (length (fields_in texts.now same_scope scope_spans_field
-        blocks.now)) }
-{
-    let mut size = 0usize;
-    let mut start = 0;
-    while start < blocks.len() {
-        let (_, left) = blocks.split_at(start);
-        let count = leading::<ScopeLevel>(texts, left);
-        let (run, _) = left.split_at(count);
-        let more = scope_spans_size(texts, run);
-        size = size.saturating_add(more);
-        start += count;
-    }
-    size
-}
-
 /// Appends what a `ScopeSpans` with the first's scope holds.
 fn put_scope(
     out: &mut Vec<u8>,
@@ -285,6 +276,13 @@ impl Level for ScopeLevel {
             && is_same_url(texts, tenants, one.scope_schema_url, other.scope_schema_url)
     }
 
+    fn size(texts: &TextPool, blocks: &[Block<'_>]) -> usize {
+        let Some(block) = blocks.first() else {
+            return 0;
+        };
+        field_size(scope_size(texts, block.first_span(), blocks))
+    }
+
     fn put(out: &mut Vec<u8>, texts: &TextPool, blocks: &[Block<'_>]) -> Result<(), AllocError> {
         let Some(block) = blocks.first() else {
             return Ok(());
@@ -304,7 +302,7 @@ fn resource_size(texts: &TextPool, first: &StoredSpan, blocks: &[Block<'_>]) -> 
         (placed texts.now blocks.now))) }
 {
     embedded_size(resource_of(texts, first))
-        .saturating_add(scopes_size(texts, blocks))
+        .saturating_add(runs_size::<ScopeLevel>(texts, blocks))
         .saturating_add(url_size(resource_url_of(texts, first)))
 }
 
@@ -340,6 +338,13 @@ impl Level for ResourceLevel {
             )
     }
 
+    fn size(texts: &TextPool, blocks: &[Block<'_>]) -> usize {
+        let Some(block) = blocks.first() else {
+            return 0;
+        };
+        field_size(resource_size(texts, block.first_span(), blocks))
+    }
+
     fn put(out: &mut Vec<u8>, texts: &TextPool, blocks: &[Block<'_>]) -> Result<(), AllocError> {
         let Some(block) = blocks.first() else {
             return Ok(());
@@ -348,64 +353,4 @@ impl Level for ResourceLevel {
         put_front(out, FIRST, resource_size(texts, first, blocks))?;
         put_resource(out, texts, first, blocks)
     }
-}
-
-/// What a batch of these spans is sent as: the canonical text of an OTLP request (`ExportTraceServiceRequest`) in which
-/// neighbours of one resource and schema share a `ResourceSpans`, and in it those of one scope and schema a
-/// `ScopeSpans`. Each span's resource and scope are those that its tenant has at its keys; where the tenant has no text
-/// at a key, it is as if the span had no key.
-pub fn encode_batch(
-    alloc: Global,
-    texts: &TextPool,
-    spans: &[&StoredSpan],
-) -> Result<Bytes, AllocError>
-    ensures { IfOk result (λ payload. payload ≡ export_text (spans_in texts.now spans.now)) }
-{
-    let blocks = blocks_of(alloc, spans)?;
-    let mut text = Vec::with_capacity(alloc, room_for(texts, &blocks))?;
-    put_runs::<ResourceLevel>(&mut text, texts, &blocks)?;
-    Ok(Bytes::from_vec(text)?)
-}
-
-/// The most bytes of a field's tag and length.
-const FRAME: usize = 6;
-
-/// The bytes of a span's resource, and of its schema's URL, round what stands in it.
-fn room_of_resource(texts: &TextPool, span: &StoredSpan) -> usize {
-    let resource = resource_of(texts, span).map_or(0, |text| text.len());
-    resource
-        .saturating_add(resource_url_of(texts, span).len())
-        .saturating_add(3 * FRAME)
-}
-
-/// The bytes of a span's scope, and of its schema's URL, round what stands in it.
-fn room_of_scope(texts: &TextPool, span: &StoredSpan) -> usize {
-    let scope = scope_of(texts, span).map_or(0, |text| text.len());
-    scope
-        .saturating_add(scope_url_of(texts, span).len())
-        .saturating_add(3 * FRAME)
-}
-
-/// Whether a span has another resource than the one before it, by their keys, so that it is written once more.
-fn has_other_resource(span: &StoredSpan, before: &StoredSpan) -> bool {
-    let (keys, other) = (span.keys(), before.keys());
-    keys.resource != other.resource || keys.resource_schema_url != other.resource_schema_url
-}
-
-/// Room for a batch's text, so that it needn't grow: the largest batch must find memory in one piece, not in two. A
-/// resource that neighbours share stands there once, however many scopes it has.
-fn room_for(texts: &TextPool, blocks: &[Block<'_>]) -> usize {
-    let mut room = 0usize;
-    let mut before: Option<&StoredSpan> = None;
-    for block in blocks {
-        let first = block.first_span();
-        if before.map_or(true, |before| has_other_resource(first, before)) {
-            room = room.saturating_add(room_of_resource(texts, first));
-        }
-        room = room
-            .saturating_add(room_of_scope(texts, first))
-            .saturating_add(block.bytes());
-        before = Some(first);
-    }
-    room
 }

@@ -5,10 +5,11 @@
 //! that `specs/Batches` says of the list of all groups that came, at the moments that it says. Spans are held by key;
 //! what is proved of batches holds of spans of any type. Moments and timeouts are milliseconds, sizes are spans.
 //!
-//! What a batch is sent as, [`encode_batch`], is the canonical text of an OTLP request in which neighbours of one
+//! What a batch is sent as, a [`BatchText`], is the canonical text of an OTLP request in which neighbours of one
 //! resource, and in it of one scope, stand together (`specs/ExportText`); that it is the text of such a request, and
 //! read as such, is a law ([`batches_are_requests`]). It is put together from texts: each span has its own, and those
 //! that spans share are named by keys and kept in a pool, so neighbours are most often compared by their keys alone.
+//! How many bytes it has is known before it is written.
 //!
 //! It stands on `text_pool`, `span_pool` and `text_slice`, on `pb_wire`, `otlp_trace` and `otlp_read` for requests and
 //! their text, and on the library's `bytes`. The rules are those of the OpenTelemetry Collector's batch processor
@@ -21,6 +22,7 @@ ghost use Rattle.span_batcher.specs.State.{WaitsOn, StaysDrained};
 ghost use Rattle.span_batcher.specs.Timers.{Passes, AllCome};
 
 mod batch;
+mod batch_text;
 mod batcher;
 mod block;
 mod encode;
@@ -30,8 +32,8 @@ mod request;
 mod size;
 
 pub use batch::Batch;
+pub use batch_text::BatchText;
 pub use batcher::SpanBatcher;
-pub use encode::encode_batch;
 pub use mark::PendingMark;
 pub use planned::Planned;
 pub use request::batches_are_requests;

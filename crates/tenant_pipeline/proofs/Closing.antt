@@ -1,13 +1,9 @@
 -- The end of a tenant over the stores: its state afterwards, and what always holds of it.
-use Rattle.std.proofs.Common.{◌≡◌, ◌+◌, ◌++◌, ◌∙◌, ℕ, List, [], ◌∷◌, length, map, refl, sym, ap, subst, arith, length-append, append-nil, ◌≤◌, ◌<◌, Bool, true, false, cond, Option, None, Some}
-use Rattle.std.specs.Prelude.{option_to_list}
+use Rattle.std.proofs.Common.{◌≡◌, ◌+◌, ◌++◌, ◌∙◌, ℕ, List, [], ◌∷◌, length, map, refl, sym, ap, subst, arith, append-nil, ◌≤◌, ◌<◌, Bool, true, false, cond, Option, None, Some}
 use Rattle.std.specs.List.{AllByRecursion}
 use Rattle.std.proofs.lemmas.List.{map-append}
-use Rattle.drop_ledger.specs.declared.places.Place.TheVariants.{Undecided, Pending, Queued, QueueFull}
-use Rattle.send_queue.specs.Sender.{BatchData, ActiveData, is_full}
-use Rattle.tail_settings.specs.SendingQueue.{SendingQueueData}
 use Rattle.span_batcher.specs.State as batcher
-use Rattle.span_batcher.specs.Machine.{cuts, added, fired, drained}
+use Rattle.span_batcher.specs.Machine.{fired}
 use Rattle.tail_policy.specs.declared.note.TraceNote.{TraceNote}
 use Rattle.tail_settings.specs.Policy.{PolicyData}
 use Rattle.tenant_stores.specs.declared.stores.Stores.{Stores}
@@ -24,14 +20,13 @@ use Rattle.trace_rows.specs.Part.{keys_of}
 use Rattle.tail_policy.specs.Note.{verdict_of}
 use Rattle.span_batcher.specs.Batches.{Batch}
 use Rattle.span_batcher.specs.Maps.{spans_of}
-use Rattle.tenant_rules.specs.Batching.{all_sent}
-use Rattle.tenant_rules.specs.Fate.{SettledData, WaitingData, are_sampled}
+use Rattle.tenant_rules.specs.Fate.{SettledData, WaitingData}
 use Rattle.tenant_rules.specs.Fronts.{decided_rows, AreInOrder, AllDueBy}
 use Rattle.tenant_rules.specs.Limits.{IsWithinLimits}
 use Rattle.tenant_rules.specs.Machine.{all_decided, closed, drain}
 use Rattle.tenant_rules.specs.State.{State}
 use Rattle.tenant_rules.specs.Sum.{IsCounted}
-use Rattle.tenant_rules.specs.Timers.{recount, queued, all_queued, settle, sample, decide_row}
+use Rattle.tenant_rules.proofs.Limits.{drains_stay_within}
 use Rattle.tenant_rules.proofs.Sums.{Kept, fixed_of, kept_of, counted_of, drain_kept}
 use Rattle.tenant_pipeline.specs.declared.pipeline.Pipeline.{Pipeline}
 use Rattle.tenant_pipeline.specs.Acts.{at, ActsAt}
@@ -40,51 +35,8 @@ use Rattle.tenant_pipeline.specs.Invariant.{IsNoted, PipelineInvariantAt, Pipeli
 use Rattle.tenant_pipeline.specs.StateIn.{all_written, arrivals_of, counts_in, policies_of, settled_of, waiting_of, part_in, state_by, state_of, unsent_at, view_in, with_behind, written_state_of, written_with}
 use Rattle.tenant_pipeline.proofs.Timing.{verdict_is}
 use Rattle.tenant_pipeline.proofs.Behind.{is_behind}
+use Rattle.tenant_pipeline.proofs.Stepping.{within_with}
 use Rattle.tenant_pipeline.proofs.Unwritten.{ShowSame, some_same, unsent_same}
-
--- ---- batches that are sent change neither settings nor what is active
-
-pub record SendsAlike (s t : State) : Type 0 where
-  pub sending : t.sender.sending ≡ s.sender.sending
-  pub active : t.sender.active ≡ s.sender.active
-
-alike_same : (s : State) → SendsAlike s s
-alike_same s = record { sending = refl; active = refl }
-
-alike_next : (s t u : State) → SendsAlike s t → SendsAlike t u → SendsAlike s u
-alike_next s t u first then = record { sending = then.sending ∙ first.sending; active = then.active ∙ first.active }
-
-queued_alike : (b : BatchData) (s : State) → SendsAlike s (queued b s)
-queued_alike b s = by_test (is_full s.sender)
-  where
-    by_test : (full : Bool) → SendsAlike s (cond full (recount Pending QueueFull b.spans s) (recount Pending Queued b.spans (record s { sender = cond full s.sender (record s.sender { queue = s.sender.queue ++ b ∷ [] }) })))
-    by_test true = record { sending = refl; active = refl }
-    by_test false = record { sending = refl; active = refl }
-
-all_queued_alike : (bs : List BatchData) (s : State) → SendsAlike s (all_queued bs s)
-all_queued_alike [] s = alike_same s
-all_queued_alike (b ∷ bs) s = alike_next s (queued b s) (all_queued bs (queued b s)) (queued_alike b s) (all_queued_alike bs (queued b s))
-
-sample_alike : (moment : ℕ) (row : WaitingData) (b : Bool) (s : State) → SendsAlike s (sample moment row b s)
-sample_alike moment row true s =
-    let t : State = recount Undecided Pending (length row.spans) (record s { pending = added moment row.spans s.pending }) in
-    let a = all_queued_alike (all_sent (cuts s.pending.rules moment (s.pending.spans ++ row.spans))) t in
-    record { sending = a.sending; active = a.active }
-sample_alike moment row false s = record { sending = refl; active = refl }
-
-all_decided_alike : (moment : ℕ) (rows : List WaitingData) (s : State) → SendsAlike s (all_decided moment rows s)
-all_decided_alike moment [] s = alike_same s
-all_decided_alike moment (row ∷ rows) s =
-    let b = are_sampled s.section.tail_sampling.policies row.spans in
-    let one = sample_alike moment row b (settle moment row rows b s) in
-    let rest = all_decided_alike moment rows (decide_row moment row rows s) in
-    record { sending = rest.sending ∙ one.sending; active = rest.active ∙ one.active }
-
-closed_alike : (moment : ℕ) (s : State) → SendsAlike s (closed moment s)
-closed_alike moment s =
-    let t : State = record s { drained = true; pending = fired s.pending } in
-    let a = all_queued_alike (all_sent (option_to_list (drained moment s.pending.spans))) t in
-    record { sending = a.sending; active = a.active }
 
 -- ---- verdicts
 
@@ -96,10 +48,6 @@ settled_are policies (row ∷ rows) noted =
     let verdict = verdict_is policies row.note (arrivals_of row.spans) noted.0 in
     let rest = settled_are policies rows noted.1 in
     λ i. record { trace = row.trace; sampled = verdict i } ∷ rest i
-
-decided_many : (policies : List PolicyData) (rows : List WaitingData) → length (decided_rows policies rows) ≡ length rows
-decided_many policies [] = refl
-decided_many policies (row ∷ rows) = let rest = decided_many policies rows in omega (arith, rest)
 
 -- ---- the end
 
@@ -177,36 +125,9 @@ module _ (own mid : Pipeline) (p q : Part TraceNote) (moment : ℕ) (gone : List
 
   within : IsWithinLimits (written_state_of new q)
   within =
-      let alike : SendsAlike (at moment s) (closed_state moment s mid) = subst (λ (t : State). SendsAlike (at moment s) t) sends.rules
-      (alike_next (at moment s) (all_decided moment s.waiting (at moment s)) (closed moment (all_decided moment s.waiting (at moment s)))
-      (all_decided_alike moment s.waiting (at moment s)) (closed_alike moment (all_decided moment s.waiting (at moment s)))) in
-      let sending : mid.sender.sending ≡ own.sender.sending = alike.sending in
-      let active : mid.sender.active ≡ own.sender.active = alike.active in
-      let size = ap (λ (x : SendingQueueData). x.queue_size) sending in
-      let consumers = ap (λ (x : SendingQueueData). x.num_consumers) sending in
-      let fit = ap (λ (xs : List ActiveData). length xs) active in
-      let was = held.within in
-      let rows = was.rows_are in
-      let queue_size = was.queue_size_is in
-      let num_consumers = was.num_consumers_is in
-      let active_fit = was.active_fit in
-      let settled : (written_state_of new q).settled ≡ s.settled ++ decided_rows (policies_of own) s.waiting = ap (λ (t : State). t.settled) state_is in
-      let waiting : (written_state_of new q).waiting ≡ [] = ap (λ (t : State). t.waiting) state_is in
-      let n = ap length settled in
-      let m = ap length waiting in
-      let both = length-append s.settled (decided_rows (policies_of own) s.waiting) in
-      let many = decided_many (policies_of own) s.waiting in
-      record {
-        rows_are = omega (arith, n, m, both, many, rows);
-        queue_size_is = size ∙ queue_size;
-        num_consumers_is = consumers ∙ num_consumers;
-        queue_fits = let section = ap (λ (x : Pipeline). x.section.sending_queue.queue_size) sends.same in let room = sends.room in let fits = room.fits in omega (arith, section, fits);
-        active_fit = omega (arith, fit, active_fit);
-        sampled_size_is = was.sampled_size_is;
-        other_size_is = was.other_size_is;
-        sampled_fit = was.sampled_fit;
-        others_fit = was.others_fit;
-      }
+      let was : IsWithinLimits (at moment s) = within_with s.clock moment s held.within in
+      let limits : IsWithinLimits (closed_state moment s mid) = subst IsWithinLimits drain_is (drains_stay_within moment (at moment s) was) in
+      within_with moment (written_state_of new q).clock (written_state_of new q) (subst IsWithinLimits (sym state_is) limits)
 
   pub closed_by : Closed moment gone own new p q
   closed_by =

@@ -4,7 +4,7 @@ use Rattle.std.specs.Prelude.{nat_lt}
 use Rattle.std.proofs.lemmas.Bool.Decides.{nat_tests}
 use Rattle.span_pool.specs.Stored.{same_bytes}
 use Rattle.drop_ledger.specs.Ledger.{counted, most_counted}
-use Rattle.drop_ledger.specs.declared.places.Place.TheVariants.{Undecided, Pending, Queued, QueueFull, NotSampled}
+use Rattle.drop_ledger.specs.declared.places.Place.TheVariants.{Undecided, Pending, NotSampled}
 use Rattle.span_batcher.specs.Machine.{cuts, added}
 use Rattle.tenant_rules.specs.Arrivals.{Arrival, trace_of}
 use Rattle.tenant_rules.specs.Batching.{all_sent, spans_in}
@@ -12,11 +12,11 @@ use Rattle.tenant_rules.specs.Fate.{SettledData, WaitingData}
 use Rattle.tenant_rules.specs.Fronts.{AreInOrder, AllDueBy}
 use Rattle.tenant_rules.specs.Limits.{IsWithinLimits}
 use Rattle.tenant_rules.specs.Machine.{held, has_row, joined, evict_waiting, evict_first, evicted, opens, joins, counted_in}
-use Rattle.tenant_rules.specs.Sender.{BatchData, is_full}
 use Rattle.tenant_rules.specs.State.{State}
 use Rattle.tenant_rules.specs.Sum.{IsCounted}
-use Rattle.tenant_rules.specs.Timers.{recount, queued, all_queued, grouped}
+use Rattle.tenant_rules.specs.Timers.{recount, grouped}
 use Rattle.tenant_rules.proofs.Arrived.{more_of}
+use Rattle.tenant_rules.proofs.Limits.{offers_stay_within}
 use Rattle.tenant_rules.proofs.Opening.{spans_append}
 use Rattle.tenant_rules.proofs.Sums.{Fixed, Kept, fixed_of, kept_of, counted_of, grouped_kept}
 
@@ -200,20 +200,6 @@ module _ (m : ℕ) (x : Arrival) (s : State) (some : 0 < s.section.tail_sampling
 
 -- ---- late spans
 
-queued_within : (b : BatchData) (s : State) → IsWithinLimits s → IsWithinLimits (queued b s)
-queued_within b s k = by_test (is_full s.sender) refl
-  where
-    room : is_full s.sender ≡ false → length s.sender.queue < s.sender.sending.queue_size
-    room is = grind (arith, nat_tests, is)
-
-    by_test : (full : Bool) → is_full s.sender ≡ full → IsWithinLimits (cond full (recount Pending QueueFull b.spans s) (recount Pending Queued b.spans (record s { sender = cond full s.sender (record s.sender { queue = s.sender.queue ++ b ∷ [] }) })))
-    by_test true is = omega arith
-    by_test false is = omega (arith, room is, length-append s.sender.queue (b ∷ []))
-
-all_queued_within : (bs : List BatchData) (s : State) → IsWithinLimits s → IsWithinLimits (all_queued bs s)
-all_queued_within [] s k = k
-all_queued_within (b ∷ bs) s k = all_queued_within bs (queued b s) (queued_within b s k)
-
 module _ (m : ℕ) (x : Arrival) (s : State) (one : HasOne s) (fits : Fits s) where
   -- of a row that is sampled: one more was taken
   pub late_kept : Kept (more_of 1 (fixed_of s)) 0 0 (grouped Undecided m (x ∷ []) (counted_in s))
@@ -232,7 +218,7 @@ module _ (m : ℕ) (x : Arrival) (s : State) (one : HasOne s) (fits : Fits s) wh
       let same : IsWithinLimits t = omega arith in
       record {
         counted = counted_of f (grouped Undecided m (x ∷ []) (counted_in s)) late_kept (let most = one.few in omega (arith, most));
-        within = all_queued_within (all_sent (cuts s.pending.rules m (s.pending.spans ++ x ∷ []))) t same;
+        within = offers_stay_within (all_sent (cuts s.pending.rules m (s.pending.spans ++ x ∷ []))) t same;
       }
 
 -- and of one that isn't

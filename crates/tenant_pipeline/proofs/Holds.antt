@@ -12,7 +12,7 @@ use Rattle.tenant_stores.specs.Counts.{Counts, count}
 use Rattle.tenant_stores.specs.HeldTexts.{origin_in}
 use Rattle.tenant_stores.specs.Part.{Part}
 use Rattle.tenant_stores.specs.Invariant.{StoreInvariant}
-use Rattle.tenant_stores.specs.Promises.{ShowsSame, WhereHeld}
+use Rattle.tenant_stores.specs.Promises.{ShowsSameHeld, WhereHeld}
 use Rattle.tenant_stores.specs.Shows.{AreAmong}
 use Rattle.tenant_stores.specs.Trail.{HoldsAll}
 use Rattle.tenant_stores.specs.View.{text_at, text_keys}
@@ -213,7 +213,7 @@ module _ (moment : ℕ) (journal : Journal) (origins : List OriginTexts) (held0 
     (next : IsNext moment journal origins held0 span own p)
     (more : WhereHeld (held_keys held0) p (λ n pending held. HoldsMore held0 held1 p q))
     (is_sound : WhereHeld (held_keys held0) p (λ n pending held. StoreInvariant n pending (held_keys held1 ++ held) q))
-    (shows : ShowsSame p q)
+    (shows : ShowsSameHeld (held_keys held0) p q)
   where
     abbrev pending : List ℕ
     pending = journal.undo.gone.items ++ own.batcher.spans
@@ -225,7 +225,7 @@ module _ (moment : ℕ) (journal : Journal) (origins : List OriginTexts) (held0 
     sound1 = subst (λ (ks : List ℕ). StoreInvariant (counts_in own) pending ks q) (append-nil (held_keys held1)) (is_sound (counts_in own) pending [] sound0)
 
     same : view_in own q ≡ view_in own p
-    same = shows (counts_in own) pending (held_keys held0) own.batcher.spans next.posting.holds.sound (λ key. let both = count-append key journal.undo.gone.items own.batcher.spans in omega (arith, both))
+    same = shows (counts_in own) pending [] own.batcher.spans sound0 (λ key. let both = count-append key journal.undo.gone.items own.batcher.spans in omega (arith, both))
 
     holding : IsPosting moment journal (held_keys held1) own q
     holding = record {

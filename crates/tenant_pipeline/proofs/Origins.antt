@@ -1,8 +1,8 @@
 -- Texts of origins that are held for the spans of a body.
-use Rattle.std.proofs.Common.{◌≡◌, ℕ, zero, suc, ◌<◌, List, [], ◌∷◌, ◌++◌, length, get_or, refl, sym, ap, subst, ◌∙◌, arith, append_assoc, append-nil, Option, Some, None}
-use Rattle.std.proofs.lemmas.List.{map-append}
+use Rattle.std.proofs.Common.{◌≡◌, ℕ, zero, suc, ◌<◌, ◌-◌, List, [], ◌∷◌, ◌++◌, length, get_or, refl, sym, ap, subst, ◌∙◌, arith, append_assoc, append-nil, Option, Some, None}
+use Rattle.std.proofs.lemmas.List.{length-map, map-append}
 use Rattle.std.specs.Prelude.{option_to_list}
-use Rattle.span_pool.specs.Stored.{OwnedKeys, bytes_of, origin_at}
+use Rattle.span_pool.specs.Stored.{Origin, OwnedKeys, bytes_of, origin_at}
 use Rattle.span_pool.specs.Stored as keyed
 use Rattle.span_pool.specs.declared.keys.TextKeys.{TextKeys}
 use Rattle.tail_policy.specs.declared.note.TraceNote.{TraceNote}
@@ -16,7 +16,11 @@ use Rattle.tenant_stores.specs.View.{text_keys, view}
 use Rattle.tenant_stores.proofs.Held.{four_parts}
 use Rattle.tenant_stores.proofs.Lists.{count-append, count-self}
 use Rattle.tenant_stores.proofs.Parts.{all_released-append, part_by}
-use Rattle.tenant_pipeline.specs.Posts.{all_keys, all_text_keys, keys_at}
+use Rattle.otlp_prepare.specs.Arrivals as prepared
+use Rattle.otlp_prepare.specs.Origin.{OriginTexts}
+use Rattle.tenant_stores.specs.HeldTexts.{origin_in}
+use Rattle.tenant_pipeline.specs.declared.post.HeldOrigins.{HeldOrigins}
+use Rattle.tenant_pipeline.specs.Posts.{all_keys, all_text_keys, held_keys, keys_at, keys_if, place_of, AreHeldAt, IsLike, IsPlaceLike}
 
 -- ---- keys
 
@@ -103,3 +107,42 @@ one_less_held all left front keys old p q popped was own is_sound shows =
 pub given_back : (p start : Part TraceNote) → HoldsAll [] start p → p ≡ start
 given_back p start holds =
     part_by p.spans start.spans p.texts start.texts p.rows start.rows p.latest_rows start.latest_rows holds.spans holds.texts holds.rows holds.latest_rows
+
+-- ---- keys of texts that have the same resource
+
+-- keys that are among some are among more
+pub among_more : (keys xs ys : List ℕ) → AreAmong keys xs → AreAmong keys (xs ++ ys)
+among_more keys xs ys among = λ key. let both = count-append key xs ys in let few = among key in omega (arith, both, few)
+
+-- keys that are given are among those in hand
+pub among_given : (like : Option TextKeys) (keys : TextKeys) (held : List ℕ) → like ≡ Some keys → AreAmong (text_keys keys) held → AreAmong (keys_if like) held
+among_given like keys held is among = subst (λ (l : Option TextKeys). AreAmong (keys_if l) held) (sym is) among
+
+pub among_taken : (like : Option TextKeys) (keys : TextKeys) (held : List ℕ) → like ≡ Some keys → AreAmong (keys_if like) held → AreAmong (text_keys keys) held
+among_taken like keys held is among = subst (λ (l : Option TextKeys). AreAmong (keys_if l) held) is among
+
+pub resource_like : (like : Option TextKeys) (keys : TextKeys) (origin : OriginTexts) (p : Part TraceNote) → like ≡ Some keys → IsLike like origin p
+    → prepared.HasSameResource (origin_in p keys) (prepared.origin_view origin)
+resource_like like keys origin p is same = subst (λ (l : Option TextKeys). IsLike l origin p) is same
+
+-- those of an origin that is held, and of the same resource spans
+module _ (origins : List OriginTexts) (held : HeldOrigins) (first place : ℕ) (read : OwnedKeys) (keys : TextKeys) (at : IsPlaceLike origins held first place)
+    (read_is : read ≡ get_or held.keys.items place read) (keys_are : keys ≡ read.keys)
+  where
+    keys_there : keys_at (all_keys held.keys.items) place ≡ keys
+    keys_there = keys_index held.keys.items place read at.there ∙ (ap (λ (k : OwnedKeys). k.keys) (sym read_is) ∙ sym keys_are)
+
+    pub like_among : AreAmong (text_keys keys) (held_keys held)
+    like_among =
+        let size = length-map held.keys.items (λ (k : OwnedKeys). k.keys) in
+        let less = at.there in
+        subst (λ (ks : TextKeys). AreAmong (text_keys ks) (held_keys held)) keys_there (among_at (all_keys held.keys.items) place (omega (arith, size, less)))
+
+    pub like_resource : (index : ℕ) → first ≡ prepared.first_at origins index → prepared.IsGrouped origins index → (p : Part TraceNote) → AreHeldAt origins held p
+        → prepared.HasSameResource (origin_in p keys) (prepared.origin_at origins index)
+    like_resource index same grouped p was =
+        let there : origin_in p (keys_at (all_keys held.keys.items) (place_of held at.index - 1)) ≡ prepared.origin_at origins at.index = was.texts at.index at.held_is in
+        let keys_same : keys_at (all_keys held.keys.items) (place_of held at.index - 1) ≡ keys =
+        ap (λ (k : ℕ). keys_at (all_keys held.keys.items) k) (sym at.place_is) ∙ keys_there in
+        let text : prepared.origin_at origins at.index ≡ origin_in p keys = sym there ∙ ap (λ (ks : TextKeys). origin_in p ks) keys_same in
+        subst (λ (o : Origin). prepared.HasSameResource o (prepared.origin_at origins index)) text (grouped at.index at.within (at.same ∙ same))

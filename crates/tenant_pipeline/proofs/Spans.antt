@@ -25,6 +25,7 @@ use Rattle.tenant_stores.proofs.Lists.{count-append, count-self}
 use Rattle.tenant_rules.specs.Arrivals.{Arrival}
 use Rattle.tenant_rules.specs.Batching.{as_sent}
 use Rattle.tenant_rules.specs.ExportText.{texts_of, export_text}
+use Rattle.tenant_rules.specs.Sender.{BatchData}
 use Rattle.tenant_pipeline.specs.StateIn.{arrival_of, arrivals_of}
 use Rattle.tenant_pipeline.specs.Outbox.{arrivals_at, AreThere, batch_at}
 
@@ -127,3 +128,21 @@ spans_same t u same [] = refl
 spans_same t u same (x ∷ xs) =
     let one : span_in t x.now ≡ span_in u x.now = ap (λ (at : ℕ → Option CountedText). keyed_texts (λ key. text_of (at key)) x.now) (same x.now.owner) in
     ap (λ (y : SpanTexts). y ∷ spans_in t xs) one ∙ ap (λ (ys : List SpanTexts). span_in u x.now ∷ ys) (spans_same t u same xs)
+
+-- the batch of spans that a tenant was found to have at keys, as it is sent
+module _ (tenant : ℕ) (stores : Stores TraceNote) (keys : List ℕ) (found lent : List (Bor StoredData)) (pool : Slab CountedText)
+    (are : spans_in stores.texts found ≡ spans_at (part tenant stores).spans (part tenant stores).texts keys) (same : lent ≡ found) (texts_are : (t : ℕ) → texts.part t pool ≡ texts.part t stores.texts) where
+  abbrev xs : List SpanTexts
+  xs = spans_at (part tenant stores).spans (part tenant stores).texts keys
+
+  text_is : batches.export_text (spans_in pool lent) ≡ batches.export_text xs
+  text_is = ap batches.export_text (ap (spans_in pool) same ∙ (spans_same pool stores.texts texts_are found ∙ are))
+
+  pub found_text : batches.export_text (spans_in pool lent) ≡ export_text (arrivals_of xs)
+  found_text = text_is ∙ ap (λ (b : BatchData). b.payload) (sent_is 0 (length xs) (batches.export_text xs) xs refl refl)
+
+  pub found_sent : (moment n : ℕ) (payload : List ℕ) → n ≡ length found → payload ≡ batches.export_text (spans_in pool lent) →
+      record { moment = moment; spans = n; payload = payload } ≡ as_sent (record { moment = moment; spans = arrivals_of xs })
+  found_sent moment n payload size text =
+      let all : length found ≡ length xs = sym (length-map found (λ b. span_in stores.texts b.now)) ∙ ap length are in
+      sent_is moment n payload xs (size ∙ all) (text ∙ text_is)

@@ -14,7 +14,7 @@ use Rattle.tenant_rules.specs.Batching.{all_sent}
 use Rattle.tenant_rules.specs.Fate.{SettledData, WaitingData}
 use Rattle.tenant_rules.specs.Intake.{Verdict, shutting_down, counter_limit, exhausted, accepted, verdict_of}
 use Rattle.tenant_rules.specs.Machine.{held, sampled_in, has_row, evict_waiting, evict_first, evicted, opens, joins, cached_or_opens, late_or_opens, goes, counted_in, come, all_come, post_verdict, posted, post}
-use Rattle.tenant_rules.specs.Sender.{BatchData, is_full, offered}
+use Rattle.tenant_rules.specs.Sender.{BatchData, finds_no_room, admitted}
 use Rattle.tenant_rules.specs.State.{State}
 use Rattle.tenant_rules.specs.Timers.{recount, queued, all_queued, grouped, remembered}
 use Rattle.tenant_pipeline.specs.Acts.{at}
@@ -28,9 +28,9 @@ abbrev pub apart : LedgerData → LedgerData
 apart l = record l { places = no_places }
 
 queued_apart : (b : BatchData) (s : State) → apart (queued b s).ledger ≡ apart s.ledger
-queued_apart b s = by_test (is_full s.sender)
+queued_apart b s = by_test (finds_no_room b s.sender)
   where
-    by_test : (full : Bool) → apart (cond full (recount Pending QueueFull b.spans s) (recount Pending Queued b.spans (record s { sender = offered b s.sender }))).ledger ≡ apart s.ledger
+    by_test : (full : Bool) → apart (cond full (recount Pending QueueFull b.spans s) (recount Pending Queued b.spans (record s { sender = admitted b s.sender }))).ledger ≡ apart s.ledger
     by_test true = refl
     by_test false = refl
 
@@ -119,10 +119,10 @@ all_take m (x ∷ xs) s = by_room (nat_lt (held s) s.section.max_spans) (λ t. a
 -- ---- what a span that comes does at another reading of the clock
 
 queued_at : (c : ℕ) (b : BatchData) (s : State) → queued b (at c s) ≡ at c (queued b s)
-queued_at c b s = by_test (is_full s.sender)
+queued_at c b s = by_test (finds_no_room b s.sender)
   where
-    by_test : (full : Bool) → cond full (recount Pending QueueFull b.spans (at c s)) (recount Pending Queued b.spans (record (at c s) { sender = offered b s.sender }))
-        ≡ at c (cond full (recount Pending QueueFull b.spans s) (recount Pending Queued b.spans (record s { sender = offered b s.sender })))
+    by_test : (full : Bool) → cond full (recount Pending QueueFull b.spans (at c s)) (recount Pending Queued b.spans (record (at c s) { sender = admitted b s.sender }))
+        ≡ at c (cond full (recount Pending QueueFull b.spans s) (recount Pending Queued b.spans (record s { sender = admitted b s.sender })))
     by_test true = refl
     by_test false = refl
 

@@ -56,10 +56,10 @@ pub record SendsRest (moment : ℕ) (p : Part TraceNote) (old new : Pipeline) : 
   pub same : new ≡ record old { sender = new.sender; ledger = new.ledger }
   pub room : HasRoom new
 
--- so it is while a drain's batches aren't written, wherever the pending spans are
-abbrev pub SendsRestUnsent : ℕ → (unsent unsent' : List (Batch ℕ)) → (old new : Pipeline) → Type 0
-SendsRestUnsent moment unsent unsent' old new = (p : Part TraceNote) → AreThere p old.batcher.spans
-    → HasRoom (written_with unsent p old) → SendsRest moment p (written_with unsent p old) (written_with unsent' p new)
+-- so it is while a drain's batches aren't written, where the part has the pending spans
+abbrev pub SendsRestUnsent : ℕ → Part TraceNote → (unsent unsent' : List (Batch ℕ)) → (old new : Pipeline) → Type 0
+SendsRestUnsent moment p unsent unsent' old new = AreThere p old.batcher.spans → HasRoom (written_with unsent p old)
+    → SendsRest moment p (written_with unsent p old) (written_with unsent' p new)
 
 -- the state at a moment, drained: its rows have their verdicts, nothing is pending, and the sender and the counters are
 -- these

@@ -2,7 +2,8 @@
 -- batchprocessor and exporterhelper, as `tenant_rules` has them).
 use Rattle.std.specs.Prelude.{None, ◌≡◌, ◌≢◌, ◌<◌, ◌≤◌, ◌+◌, ◌++◌, ℕ, zero, suc, List, length}
 use Rattle.drop_ledger.specs.declared.places.Place.TheVariants.{Undecided}
-use Rattle.send_queue.specs.Sender.{SenderData, taken_back}
+use Rattle.drop_ledger.specs.Ledger.{LedgerData}
+use Rattle.send_queue.specs.Sender.{BatchData, SenderData, taken_back}
 use Rattle.send_queue.specs.declared.settled.Settled.{Settled}
 use Rattle.send_queue.specs.declared.settled.Settled.TheVariants as settled
 use Rattle.span_batcher.specs.Batches.{Batch}
@@ -13,8 +14,9 @@ use Rattle.tenant_stores.specs.Part.{Part}
 use Rattle.tenant_stores.specs.Counts.{count}
 use Rattle.tenant_stores.specs.View.{spans_at}
 use Rattle.tenant_rules.specs.Arrivals.{Arrival}
+use Rattle.tenant_rules.specs.Batching.{as_sent}
 use Rattle.tenant_rules.specs.State.{State}
-use Rattle.tenant_rules.specs.Timers.{grouped}
+use Rattle.tenant_rules.specs.Timers.{grouped, queued}
 use Rattle.tenant_pipeline.specs.declared.pipeline.Pipeline.{Pipeline}
 use Rattle.tenant_pipeline.specs.StateIn.{pending_with, written_with}
 pub use Rattle.tenant_pipeline.specs.StateIn.{arrivals_at, batch_at}
@@ -23,9 +25,18 @@ pub use Rattle.tenant_pipeline.specs.StateIn.{arrivals_at, batch_at}
 abbrev pub AreThere : Part TraceNote → List ℕ → Type 0
 AreThere p keys = (key : ℕ) → 0 < count key keys → p.spans key ≢ None
 
+-- a batch of these keys' spans that forms at a moment, as it is sent
+abbrev pub sent_at : ℕ → List ℕ → Part TraceNote → BatchData
+sent_at moment keys p = as_sent (batch_at p (record { moment = moment; spans = keys }))
+
 -- what is pending, with the spans of the keys
 abbrev pub pending_at : Part TraceNote → batcher.State ℕ → batcher.State Arrival
 pending_at p b = pending_with b (spans_at p.spans p.texts b.spans)
+
+-- a batch of pending spans is offered: what that makes of the sender and the counters is what the rules make of them
+abbrev pub Offers : BatchData → (old new : SenderData) → (l l' : LedgerData) → Type 0
+Offers batch old new l l' = (s : State) → s.sender ≡ old → s.ledger ≡ l
+    → queued batch s ≡ record s { sender = new; ledger = l' }
 
 -- a change of a tenant is one of its sender and its counters alone, and makes of these what the rules make of them
 pub record Sends (change : State → State) (old new : Pipeline) : Type 0 where
@@ -50,9 +61,11 @@ pub record Groups (moment : ℕ) (keys : List ℕ) (p : Part TraceNote) (old new
   pub pending_is : new.ledger.places.pending ≡ length new.batcher.spans
   pub room : HasRoom new
 
--- the same while a drain's batches aren't written: those that the group fills wait with them
-abbrev pub GroupsUnsent : ℕ → List ℕ → (unsent unsent' : List (Batch ℕ)) → (old new : Pipeline) → Type 0
-GroupsUnsent moment keys unsent unsent' old new = (p : Part TraceNote) → AreThere p (old.batcher.spans ++ keys)
+-- the same while a drain's batches aren't written, where the part has the spans: those batches that the group fills and
+-- that find room wait with them
+abbrev pub GroupsUnsent : ℕ → List ℕ → Part TraceNote → (unsent unsent' : List (Batch ℕ)) → (old new : Pipeline)
+    → Type 0
+GroupsUnsent moment keys p unsent unsent' old new = AreThere p (old.batcher.spans ++ keys)
     → HasRoom (written_with unsent p old)
     → Groups moment keys p (written_with unsent p old) (written_with unsent' p new)
 

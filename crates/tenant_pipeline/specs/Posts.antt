@@ -1,6 +1,6 @@
 -- How the spans of a post come, one after the other (OTLP/HTTP, "Partial Success", and the Collector's
 -- tailsamplingprocessor, as `tenant_rules` has them).
-use Rattle.std.specs.Prelude.{◌≡◌, ◌<◌, ◌≤◌, ◌+◌, ◌-◌, ◌++◌, ℕ, List, [], ◌∷◌, length, map, Bool, true, false, Option, None, Some, slice_index_or, if◌then◌else◌, nat_lt}
+use Rattle.std.specs.Prelude.{◌≡◌, ◌<◌, ◌≤◌, ◌+◌, ◌-◌, ◌++◌, ℕ, List, [], ◌∷◌, length, map, Bool, true, false, Option, None, Some, IfSome, slice_index_or, if◌then◌else◌, nat_lt}
 use Rattle.drop_ledger.specs.Ledger.{LedgerData, counted, moved}
 use Rattle.drop_ledger.specs.declared.places.Place.TheVariants.{Undecided, TooEarly}
 use Rattle.span_batcher.specs.State.{next_due, IsAfter}
@@ -14,7 +14,9 @@ use Rattle.trace_rows.specs.Part.{keys_of}
 use Rattle.tenant_stores.specs.declared.stores.Stores.{Stores}
 use Rattle.tenant_stores.specs.Part.{Part}
 use Rattle.tenant_stores.specs.HeldTexts.{origin_in}
-use Rattle.tenant_stores.specs.View.{text_at, text_keys}
+use Rattle.tenant_stores.specs.View.{text_at, text_keys, view}
+use Rattle.tenant_stores.specs.Counts.{Counts}
+use Rattle.tenant_stores.specs.Invariant.{StoreInvariant}
 use Rattle.tenant_stores.specs.Trail.{HoldsAll, Trail}
 use Rattle.tenant_rules.specs.Arrivals.{Arrival, trace_of}
 use Rattle.tenant_rules.specs.State.{State}
@@ -176,6 +178,35 @@ pub record AreHeldAt (origins : List OriginTexts) (held : HeldOrigins) (p : Part
   pub within : (index : ℕ) → place_of held index ≤ length held.keys.items
   pub texts : (index : ℕ) → 0 < place_of held index
       → origin_in p (keys_at (all_keys held.keys.items) (place_of held index - 1)) ≡ prepared.origin_at origins index
+
+-- where the keys of an origin that is held stand, whose resource spans have this index of their first origin
+pub record IsPlaceLike (origins : List OriginTexts) (held : HeldOrigins) (first place : ℕ) : Type 0 where
+  pub index : ℕ
+  pub within : index < length origins
+  pub same : prepared.first_at origins index ≡ first
+  pub held_is : 0 < place_of held index
+  pub place_is : place ≡ place_of held index - 1
+  pub there : place < length held.keys.items
+
+-- the keys of texts, where some are given
+abbrev pub keys_if : Option TextKeys → List ℕ
+keys_if None = []
+keys_if (Some keys) = text_keys keys
+
+-- where keys are given, their texts have this origin's resource
+abbrev pub IsLike : Option TextKeys → OriginTexts → Part TraceNote → Type 0
+IsLike like origin p = IfSome like (λ keys.
+    prepared.HasSameResource (origin_in p keys) (prepared.origin_view origin))
+
+-- wherever the part is sound, and these keys of texts, if any are given, are among those held
+abbrev pub WhereLike : Option TextKeys → Part TraceNote → (Counts → List ℕ → List ℕ → Type 0) → Type 0
+WhereLike like p Holds = (n : Counts) (pending held : List ℕ) → AreAmong (keys_if like) held
+    → StoreInvariant n pending held p → Holds n pending held
+
+-- the same is shown, wherever they are
+abbrev pub ShowsSameLike : Option TextKeys → Part TraceNote → Part TraceNote → Type 0
+ShowsSameLike like old new = (n : Counts) (pending held keys : List ℕ) → AreAmong (keys_if like) held
+    → StoreInvariant n pending held old → AreAmong keys pending → view n keys new ≡ view n keys old
 
 -- there is no room for another span
 abbrev pub IsFull : State → Type 0

@@ -1,6 +1,6 @@
 -- How batches wait that aren't written yet, behind those that are (the Collector's exporterhelper, as `tenant_rules`
 -- has it).
-use Rattle.std.specs.Prelude.{◌≡◌, ◌<◌, ◌≤◌, ◌+◌, ℕ, List, [], length, map}
+use Rattle.std.specs.Prelude.{◌≡◌, ◌<◌, ◌≤◌, ◌+◌, ℕ, Bool, List, [], length, map}
 use Rattle.drop_ledger.specs.Ledger.{LedgerData}
 use Rattle.send_queue.specs.Sender.{SenderData}
 use Rattle.span_batcher.specs.Batches.{Batch}
@@ -8,8 +8,9 @@ use Rattle.span_batcher.specs.Maps.{spans_of}
 use Rattle.tail_policy.specs.declared.note.TraceNote.{TraceNote}
 use Rattle.tenant_stores.specs.Part.{Part}
 use Rattle.tenant_stores.specs.Counts.{count}
-use Rattle.tenant_rules.specs.Batching.{all_sent}
+use Rattle.tenant_rules.specs.Batching.{all_sent, as_sent}
 use Rattle.tenant_rules.specs.Machine.{turned}
+use Rattle.tenant_rules.specs.Sender.{finds_no_room}
 use Rattle.tenant_rules.specs.State.{State}
 use Rattle.tenant_rules.specs.Timers.{all_queued}
 use Rattle.tenant_pipeline.specs.declared.pipeline.Pipeline.{Pipeline}
@@ -22,11 +23,16 @@ use Rattle.tenant_pipeline.specs.Outbox.{AreThere, Sends}
 abbrev pub count_left : Leaving → ℕ → ℕ
 count_left leaving key = count key leaving.gone.items + count key (spans_of leaving.unsent)
 
+-- whether a batch of spans, by key, finds no room behind those that wait
+abbrev pub has_no_room : Part TraceNote → Batch ℕ → (unsent : List (Batch ℕ)) → SenderData → Bool
+has_no_room p batch unsent sender =
+    finds_no_room (as_sent (batch_at p batch)) (with_behind (unsent_at p unsent) sender)
+
 -- batches of pending spans, by key, are offered behind those that wait: what that makes of the batches and the counters
--- is what the rules make of them; each key is that of a batch that isn't written, or gone
-pub record AddsAll (batches : List (Batch ℕ)) (sender : SenderData) (old new : Leaving) (l l' : LedgerData)
-    : Type 0 where
-  pub rules : (p : Part TraceNote) → AreThere p (spans_of batches) → (s : State)
+-- is what the rules make of them, where the part has the spans; each key is that of a batch that isn't written, or gone
+pub record AddsAll (p : Part TraceNote) (batches : List (Batch ℕ)) (sender : SenderData) (old new : Leaving)
+    (l l' : LedgerData) : Type 0 where
+  pub rules : AreThere p (spans_of batches) → (s : State)
       → s.sender ≡ with_behind (unsent_at p old.unsent) sender → s.ledger ≡ l
       → all_queued (all_sent (map (batch_at p) batches)) s
       ≡ record s { sender = with_behind (unsent_at p new.unsent) sender; ledger = l' }

@@ -35,8 +35,9 @@ use tenant_stores::Stores;
 
 impl Pipeline {
     /// The first drain, at a moment, in milliseconds, by which no timer is due. Its batches are decided, and one at
-    /// most is written; the spans of the others stay in the stores until they are. Where memory is refused, nothing has
-    /// changed.
+    /// most is written; the spans of the others stay in the stores until they are. This takes four bytes for each span
+    /// in a batch, and for one batch at a time, until its size is known, a pointer for each span and 32 bytes for each
+    /// run of neighbours with the same resource and scope. Where memory is refused, nothing has changed.
     pub(crate) fn close(
         &mut self,
         stores: &mut Stores<TraceNote>,
@@ -106,7 +107,7 @@ impl Pipeline {
             number += 1;
             self.send_row(stores, undo, leaving, moment, number)?;
         }
-        self.send_rest(leaving, moment)?;
+        self.send_rest(stores, leaving, moment)?;
         self.write_first(stores, undo, leaving)
     }
 
@@ -146,7 +147,7 @@ impl Pipeline {
             .note
             .samples(self.section.tail_sampling.policies.as_slice())
         {
-            return self.group_unsent(undo, leaving, moment, keys);
+            return self.group_unsent(stores, undo, leaving, moment, keys);
         }
         self.ledger
             .move_spans(Place::Undecided, Place::NotSampled, keys.len() as u64);
@@ -154,10 +155,15 @@ impl Pipeline {
     }
 
     /// What is pending is one batch.
-    fn send_rest(&mut self, leaving: &mut Leaving, moment: u64) -> Result<(), AllocError>
+    fn send_rest(
+        &mut self,
+        stores: &Stores<TraceNote>,
+        leaving: &mut Leaving,
+        moment: u64,
+    ) -> Result<(), AllocError>
         requires pending { self.old.ledger.places.pending ≡ length self.old.batcher.spans }
-        ensures on_success { OnOk result (SendsRestUnsent moment leaving.old.unsent
-            leaving.new.unsent self.old self.new) }
+        ensures on_success { OnOk result (SendsRestUnsent moment (part_in self.old stores.now)
+            leaving.old.unsent leaving.new.unsent self.old self.new) }
         ensures gone { OnOk result ((key : ℕ)
             → count_left leaving.new key ≡ count_left leaving.old key + count key
             self.old.batcher.spans) }
@@ -167,7 +173,14 @@ impl Pipeline {
         if keys.is_empty() {
             return Ok(());
         }
-        leaving.add(&self.sender, &mut self.ledger, moment, keys)
+        leaving.add(
+            stores,
+            self.tenant,
+            &self.sender,
+            &mut self.ledger,
+            moment,
+            keys,
+        )
     }
 
     /// The first batch that isn't written is, where none waits that is: one always stands before the others.

@@ -1,23 +1,24 @@
 //! Spans that leave their rows become batches that wait to be sent.
 
-ghost use Rattle.std.specs.Prelude.{◌≡◌, ◌<◌, ◌≤◌, ◌+◌, ◌^◌, ◌++◌, ◌∷◌, [], ℕ, map, length, IfOk, OnOk, OnErr};
+ghost use Rattle.std.specs.Prelude.{◌≡◌, ◌<◌, ◌≤◌, ◌+◌, ◌^◌, ◌++◌, [], ℕ, true, false, length, nat_lt, IfOk, MatchOption, OnOk, OnErr};
 ghost use Rattle.drop_ledger.specs.Ledger.{moved};
 ghost use Rattle.drop_ledger.specs.declared.places.Place.TheVariants.{Undecided, Pending};
 ghost use Rattle.send_queue.specs.View.{batch_view};
 ghost use Rattle.span_batcher.specs.State.{next_due, IsAfter};
-ghost use Rattle.span_batcher.specs.Machine.{threshold, cuts, added, taken};
+ghost use Rattle.span_batcher.specs.Machine.{threshold, cuts, added};
 ghost use Rattle.span_batcher.specs.Maps.{spans_of};
 ghost use Rattle.span_batcher.specs.Texts.{spans_in};
 ghost use Rattle.tenant_stores.specs.Part.{part};
 ghost use Rattle.tenant_stores.specs.Counts.{count};
 ghost use Rattle.tenant_stores.specs.View.{spans_at};
 ghost use Rattle.tail_settings.specs.Section.{section_view};
-ghost use Rattle.tenant_rules.specs.Batching.{as_sent, all_sent, rules_of};
-ghost use Rattle.tenant_rules.specs.Sender.{sizes};
-ghost use Rattle.tenant_rules.specs.Timers.{recount, queued, all_queued};
+ghost use Rattle.tenant_rules.specs.Batching.{rules_of};
+ghost use Rattle.tenant_rules.specs.ExportText.{export_text};
+ghost use Rattle.tenant_rules.specs.Sender.{most_bytes, finds_no_room};
+ghost use Rattle.tenant_rules.specs.Timers.{recount, all_queued};
 ghost use Rattle.tenant_pipeline.specs.declared.pipeline.Pipeline.{Pipeline as Own};
-ghost use Rattle.tenant_pipeline.specs.StateIn.{part_in};
-ghost use Rattle.tenant_pipeline.specs.Outbox.{arrivals_at, AreThere, batch_at, Sends, Groups, GroupsUnsent, Took, HasRoom};
+ghost use Rattle.tenant_pipeline.specs.StateIn.{part_in, unsent_at};
+ghost use Rattle.tenant_pipeline.specs.Outbox.{arrivals_at, sent_at, AreThere, Offers, Sends, Groups, GroupsUnsent, Took, HasRoom};
 ghost use Rattle.tenant_pipeline.specs.Undo.{TakesBack};
 ghost use Rattle.tenant_pipeline.specs.Unsent.{count_left};
 
@@ -25,13 +26,16 @@ use crate::pipeline::Pipeline;
 use crate::undo::{Undo, take_back_offers};
 use crate::unsent::Leaving;
 use drop_ledger::{Ledger, Place};
-use send_queue::{Batch, OfferFault};
-use span_batcher::{Planned, encode_batch};
+use send_queue::{Batch, OfferFault, SendQueue};
+use span_batcher::BatchText;
 use span_pool::StoredSpan;
 use std::alloc::{AllocError, Global};
-use std::collections::VecDeque;
 use tail_policy::TraceNote;
 use tenant_stores::Stores;
+
+/// So many bytes a batch has at most. A larger one finds no room and is never written, so that one tenant's spans can't
+/// take all memory.
+const MOST_BYTES: usize = 1 << 25;
 
 /// The tenant's spans at these keys, in their order. A key that has none is left out.
 fn spans_by_keys<'a>(
@@ -53,8 +57,9 @@ fn spans_by_keys<'a>(
     Ok(spans)
 }
 
-/// A batch of the tenant's spans at these keys, as it is sent. It formed at a moment, in milliseconds.
-pub(crate) fn encoded(
+/// A batch of the tenant's spans at these keys, as it is sent, however many bytes it has. It formed at a moment, in
+/// milliseconds.
+pub(crate) fn written(
     alloc: Global,
     stores: &Stores<TraceNote>,
     tenant: u32,
@@ -62,13 +67,11 @@ pub(crate) fn encoded(
     keys: &[u32],
 ) -> Result<Batch, AllocError>
     ensures { IfOk result (λ batch. batch_view batch ≡
-        as_sent (record {
-          moment = moment;
-          spans = arrivals_at (part tenant stores.now) keys.now;
-        })) }
+        sent_at moment keys.now (part tenant stores.now)) }
 {
     let spans = spans_by_keys(alloc, stores, tenant, keys)?;
-    let payload = encode_batch(alloc, stores.texts(), spans.as_slice())?;
+    let text = BatchText::of(alloc, stores.texts(), spans.as_slice())?;
+    let payload = text.write(alloc)?;
     Ok(Batch {
         moment,
         spans: spans.len() as u64,
@@ -76,22 +79,86 @@ pub(crate) fn encoded(
     })
 }
 
-/// Batches of the tenant's spans, as they are sent, in their order.
-fn all_encoded(
+/// Whether a batch of the tenant's spans at these keys has more bytes than a batch may have. Nothing is written.
+pub(crate) fn is_too_large(
     alloc: Global,
     stores: &Stores<TraceNote>,
     tenant: u32,
-    batches: &[span_batcher::Batch],
-) -> Result<VecDeque<Batch>, AllocError>
-    ensures { IfOk result (λ all. map batch_view all.items ≡
-        all_sent (map (batch_at (part tenant stores.now)) batches.now)) }
+    keys: &[u32],
+) -> Result<bool, AllocError>
+    ensures { IfOk result (λ large. large ≡
+        nat_lt most_bytes (length (export_text (arrivals_at (part tenant stores.now) keys.now)))) }
 {
-    let mut all = VecDeque::new(alloc);
-    for batch in batches {
-        let sent = encoded(alloc, stores, tenant, batch.moment(), batch.spans())?;
-        all.push_back(sent)?;
+    let spans = spans_by_keys(alloc, stores, tenant, keys)?;
+    let text = BatchText::of(alloc, stores.texts(), spans.as_slice())?;
+    Ok(text.size() > MOST_BYTES)
+}
+
+/// A batch of the tenant's spans at these keys, as it is sent, where it finds room behind those that wait. It forms at
+/// a moment, in milliseconds. Nothing is written where it finds none.
+fn written_if_room(
+    alloc: Global,
+    stores: &Stores<TraceNote>,
+    tenant: u32,
+    sender: &SendQueue,
+    moment: u64,
+    keys: &[u32],
+) -> Result<Option<Batch>, AllocError>
+    ensures { let sent = sent_at moment keys.now (part tenant stores.now) in
+        IfOk result (λ found. MatchOption found
+        (finds_no_room sent sender.now ≡ true)
+        (λ batch. (batch_view batch ≡ sent) × (finds_no_room sent sender.now ≡ false))) }
+{
+    if sender.queued() >= sender.capacity() as usize {
+        return Ok(None);
     }
-    Ok(all)
+    let spans = spans_by_keys(alloc, stores, tenant, keys)?;
+    let text = BatchText::of(alloc, stores.texts(), spans.as_slice())?;
+    if text.size() > MOST_BYTES {
+        return Ok(None);
+    }
+    let payload = text.write(alloc)?;
+    Ok(Some(Batch {
+        moment,
+        spans: spans.len() as u64,
+        payload,
+    }))
+}
+
+/// A batch of the tenant's pending spans at these keys forms at a moment, in milliseconds. Where it finds room, it is
+/// written and waits behind the others; else nothing is written, and its spans are dropped. The answer is how many the
+/// queue took, one or none. Where memory is refused, nothing has changed.
+pub(crate) fn offer(
+    alloc: Global,
+    stores: &Stores<TraceNote>,
+    tenant: u32,
+    sender: &mut SendQueue,
+    ledger: &mut Ledger,
+    moment: u64,
+    keys: &[u32],
+) -> Result<usize, AllocError>
+    requires there { AreThere (part tenant stores.now) keys.now }
+    requires pending { length keys.now ≤ ledger.old.places.pending }
+    ensures on_success { OnOk result (Offers (sent_at moment keys.now (part tenant stores.now))
+        sender.old sender.new ledger.old ledger.new) }
+    ensures took { IfOk result (λ offers. Took offers sender.old sender.new) }
+    ensures at_most_one { IfOk result (λ offers. offers ≤ 1) }
+    ensures on_refusal { OnErr result (sender.new ≡ sender.old) }
+    ensures ledger_on_refusal { OnErr result (ledger.new ≡ ledger.old) }
+{
+    let spans = keys.len() as u64;
+    let Some(batch) = written_if_room(alloc, stores, tenant, sender, moment, keys)? else {
+        ledger.move_spans(Place::Pending, Place::QueueFull, spans);
+        return Ok(0);
+    };
+    match sender.offer(batch) {
+        Ok(()) => {
+            ledger.move_spans(Place::Pending, Place::Queued, spans);
+            Ok(1)
+        }
+        Err(OfferFault::Full(_)) => unreachable!(),
+        Err(OfferFault::OutOfMemory(_)) => Err(AllocError),
+    }
 }
 
 /// The keys of all spans of these batches, in their order.
@@ -105,83 +172,33 @@ fn keys_of(alloc: Global, batches: &[span_batcher::Batch]) -> Result<Vec<u32>, A
     Ok(keys)
 }
 
-/// What a group of spans will make of the pending ones.
-#[derive(Drop)]
-pub(crate) struct GroupPlan {
-    /// The batches that it fills, by key, and what is pending afterwards.
-    pub planned: Planned,
-    /// The batches that the spans fill, encoded as they are sent.
-    pub sent: VecDeque<Batch>,
-    /// The keys of all spans in the batches that are filled.
-    pub gone: Vec<u32>,
-}
-
 impl Pipeline {
-    /// What the spans at these keys, which leave together, will make of the pending ones. Nothing changes yet.
-    fn plan_group(
-        &self,
-        stores: &Stores<TraceNote>,
-        moment: u64,
-        keys: &[u32],
-    ) -> Result<GroupPlan, AllocError>
-        requires not_empty { 0 < length keys.now }
-        requires moment { moment ≤ 2 ^ 62 }
-        requires timer { IsAfter (next_due self.now.batcher) moment }
-        ensures batches { IfOk result (λ cut. cut.planned.batches ≡
-            cuts self.now.batcher.rules moment (self.now.batcher.spans ++ keys.now)) }
-        ensures pending { IfOk result (λ cut.
-            taken cut.planned self.now.batcher ≡ added moment keys.now self.now.batcher) }
-        ensures sent { IfOk result (λ cut. map batch_view cut.sent.items ≡
-            all_sent (map (batch_at (part_in self.now stores.now)) cut.planned.batches)) }
-        ensures gone { IfOk result (λ cut. cut.gone.items ≡ spans_of cut.planned.batches) }
-    {
-        let planned = self.batcher.plan(moment, keys)?;
-        let sent = all_encoded(self.alloc, stores, self.tenant, planned.batches())?;
-        let gone = keys_of(self.alloc, planned.batches())?;
-        Ok(GroupPlan {
-            planned,
-            sent,
-            gone,
-        })
-    }
-
-    /// A batch of pending spans is offered to the queue; where that is full, its spans are dropped. The answer is how
-    /// many the queue took, one or none. Where memory is refused, nothing has changed.
-    pub(crate) fn offer(&mut self, batch: Batch) -> Result<usize, AllocError>
-        requires pending { batch.spans ≤ self.old.ledger.places.pending }
-        ensures on_success { OnOk result (Sends (queued (batch_view batch)) self.old self.new) }
-        ensures took { IfOk result (λ offers. Took offers self.old.sender self.new.sender) }
-        ensures at_most_one { IfOk result (λ offers. offers ≤ 1) }
-        ensures on_refusal { OnErr result (self.new ≡ self.old) }
-    {
-        let spans = batch.spans;
-        match self.sender.offer(batch) {
-            Ok(()) => {
-                self.ledger.move_spans(Place::Pending, Place::Queued, spans);
-                Ok(1)
-            }
-            Err(OfferFault::Full(_)) => {
-                self.ledger
-                    .move_spans(Place::Pending, Place::QueueFull, spans);
-                Ok(0)
-            }
-            Err(OfferFault::OutOfMemory(_)) => Err(AllocError),
-        }
-    }
-
     /// Batches of pending spans are offered, one after the other, all or none. The answer is how many the queue took.
-    fn offer_all(&mut self, mut batches: VecDeque<Batch>) -> Result<usize, AllocError>
-        requires pending { sizes (map batch_view batches.items) ≤ self.old.ledger.places.pending }
+    fn offer_all(
+        &mut self,
+        stores: &Stores<TraceNote>,
+        batches: &[span_batcher::Batch],
+    ) -> Result<usize, AllocError>
+        requires there { AreThere (part_in self.old stores.now) (spans_of batches.now) }
+        requires pending { length (spans_of batches.now) ≤ self.old.ledger.places.pending }
         requires room { HasRoom self.old }
-        ensures on_success { OnOk result
-            (Sends (all_queued (map batch_view batches.items)) self.old self.new) }
+        ensures on_success { OnOk result (Sends
+            (all_queued (unsent_at (part_in self.old stores.now) batches.now)) self.old self.new) }
         ensures took { IfOk result (λ offers. Took offers self.old.sender self.new.sender) }
         ensures on_refusal { OnErr result (self.new ≡ self.old) }
     {
         let before = self.ledger.counters();
         let mut offers = 0;
-        while let Some(batch) = batches.pop_front() {
-            match self.offer(batch) {
+        for batch in batches {
+            match offer(
+                self.alloc,
+                stores,
+                self.tenant,
+                &mut self.sender,
+                &mut self.ledger,
+                batch.moment(),
+                batch.spans(),
+            ) {
                 Ok(taken) => offers += taken,
                 Err(refused) => {
                     take_back_offers(&mut self.sender, offers);
@@ -195,12 +212,18 @@ impl Pipeline {
 
     /// So many undecided spans become pending, and then batches of pending spans are offered, all or none. The answer
     /// is how many the queue took.
-    fn offer_group(&mut self, spans: u64, batches: VecDeque<Batch>) -> Result<usize, AllocError>
+    fn offer_group(
+        &mut self,
+        stores: &Stores<TraceNote>,
+        spans: u64,
+        batches: &[span_batcher::Batch],
+    ) -> Result<usize, AllocError>
         requires undecided { spans ≤ self.old.ledger.places.undecided }
-        requires pending { sizes (map batch_view batches.items) ≤ self.old.ledger.places.pending +
-            spans }
+        requires there { AreThere (part_in self.old stores.now) (spans_of batches.now) }
+        requires pending { length (spans_of batches.now) ≤ self.old.ledger.places.pending + spans }
         requires room { HasRoom self.old }
-        ensures on_success { OnOk result (Sends (λ s. all_queued (map batch_view batches.items)
+        ensures on_success { OnOk result (Sends (λ s. all_queued
+            (unsent_at (part_in self.old stores.now) batches.now)
             (recount Undecided Pending spans s)) self.old self.new) }
         ensures took { IfOk result (λ offers. Took offers self.old.sender self.new.sender) }
         ensures on_refusal { OnErr result (self.new ≡ self.old) }
@@ -208,7 +231,7 @@ impl Pipeline {
         let before = self.ledger.counters();
         self.ledger
             .move_spans(Place::Undecided, Place::Pending, spans);
-        let offered = self.offer_all(batches);
+        let offered = self.offer_all(stores, batches);
         if offered.is_err() {
             self.ledger = Ledger::of(before);
         }
@@ -275,14 +298,11 @@ impl Pipeline {
         if !self.batcher.fills(keys.len()) {
             return self.append_group(moment, keys);
         }
-        let GroupPlan {
-            mut planned,
-            sent,
-            mut gone,
-        } = self.plan_group(stores, moment, keys)?;
+        let mut planned = self.batcher.plan(moment, keys)?;
+        let mut gone = keys_of(self.alloc, planned.batches())?;
         let kept = undo.gone.len();
         undo.gone.append(&mut gone)?;
-        match self.offer_group(keys.len() as u64, sent) {
+        match self.offer_group(stores, keys.len() as u64, planned.batches()) {
             Ok(offers) => {
                 self.batcher.exchange(&mut planned);
                 undo.note(planned, offers);
@@ -300,6 +320,7 @@ impl Pipeline {
     /// refused.
     pub(crate) fn group_unsent(
         &mut self,
+        stores: &Stores<TraceNote>,
         undo: &mut Undo,
         leaving: &mut Leaving,
         moment: u64,
@@ -313,8 +334,8 @@ impl Pipeline {
         requires pending { self.old.ledger.places.pending ≡ length self.old.batcher.spans }
         requires offers { undo.old.offers ≤ length self.old.sender.queue }
         requires few { length self.old.sender.queue < 2 ^ 32 }
-        ensures on_success { OnOk result (GroupsUnsent moment keys.now leaving.old.unsent
-            leaving.new.unsent self.old self.new) }
+        ensures on_success { OnOk result (GroupsUnsent moment keys.now
+            (part_in self.old stores.now) leaving.old.unsent leaving.new.unsent self.old self.new) }
 
         // Each key is pending, in a batch or gone, as often as before.
         ensures gone { OnOk result ((key : ℕ)
@@ -331,7 +352,13 @@ impl Pipeline {
         let mut planned = self.batcher.plan(moment, keys)?;
         self.ledger
             .move_spans(Place::Undecided, Place::Pending, keys.len() as u64);
-        leaving.add_all(&self.sender, &mut self.ledger, planned.batches())?;
+        leaving.add_all(
+            stores,
+            self.tenant,
+            &self.sender,
+            &mut self.ledger,
+            planned.batches(),
+        )?;
         self.batcher.exchange(&mut planned);
         undo.note(planned, 0);
         Ok(())

@@ -1,6 +1,6 @@
 //! The spans of a body come, all of them or none.
 
-ghost use Rattle.std.specs.Prelude.{◌≡◌, ◌<◌, ◌≤◌, ◌+◌, ◌-◌, ◌++◌, [], ℕ, List, IfOk, OnOk, OnErr, length, nat_lt, replicate};
+ghost use Rattle.std.specs.Prelude.{◌≡◌, ◌<◌, ◌≤◌, ◌+◌, ◌-◌, ◌++◌, [], ℕ, List, IfOk, IfSome, OnOk, OnErr, length, nat_lt, replicate};
 ghost use Rattle.drop_ledger.specs.Ledger.{counted, most_counted};
 ghost use Rattle.span_batcher.specs.State.{next_due, IsAfter};
 ghost use Rattle.tail_policy.specs.declared.note.TraceNote.{TraceNote as Note};
@@ -11,14 +11,15 @@ ghost use Rattle.tenant_stores.specs.View.{text_keys};
 ghost use Rattle.tenant_rules.specs.Answers.{reply_of};
 ghost use Rattle.tenant_rules.specs.Intake.{verdict_of};
 ghost use Rattle.tenant_rules.specs.Machine.{come, post, post_verdict};
-ghost use Rattle.otlp_prepare.specs.Arrivals.{arrival_in, arrivals_in, origin_at, origin_view};
+ghost use Rattle.otlp_prepare.specs.Arrivals.{arrival_in, arrivals_in, origin_at, origin_view, HasSameResource, IsGrouped};
 ghost use Rattle.otlp_prepare.specs.Prepared.{AreReady};
 ghost use Rattle.tenant_pipeline.specs.Prepared.{arrivals_of};
 ghost use Rattle.tenant_pipeline.specs.StateIn.{part_in, policies_of, written_state_in};
 ghost use Rattle.tenant_pipeline.specs.Invariant.{PipelineInvariantAt, IsSwept};
-ghost use Rattle.tenant_pipeline.specs.Posts.{all_keys, all_text_keys, held_keys, keys_at, place_of, AreHeldAt, CameNext, HoldsMore, IsFull, IsLast, IsNext, IsPosting, IsTaken, IsSameTenant, StaysWrittenWith, verdict_after};
+ghost use Rattle.tenant_pipeline.specs.Posts.{all_keys, all_text_keys, held_keys, keys_at, keys_if, place_of, AreHeldAt, CameNext, HoldsMore, IsFull, IsLast, IsLike, IsNext, IsPlaceLike, IsPosting, IsTaken, IsSameTenant, ShowsSameLike, StaysWrittenWith, verdict_after, WhereLike};
 ghost use Rattle.tenant_pipeline.specs.Acts.{ActsAt, IsPosted, at};
-ghost use Rattle.tenant_stores.specs.Promises.{OthersUnchanged, TextsStay, WhereSound, WhereHeld, ShowsSame, ShowsSameHeld};
+ghost use Rattle.tenant_stores.specs.Promises.{OthersUnchanged, TextsStay, WhereHeld, ShowsSameHeld};
+ghost use Rattle.tenant_stores.specs.Shows.{AreAmong};
 ghost use Rattle.tenant_stores.specs.HeldTexts.{origin_in};
 
 use crate::journal::Journal;
@@ -26,42 +27,84 @@ use crate::pipeline::Pipeline;
 use crate::place::{LastRow, TraceState};
 use crate::reply::{refusal, success};
 use otlp_prepare::{NotedSpan, Prepared, SpanOrigin};
-use span_pool::SharedKeys;
+use span_pool::{SharedKeys, TextKeys};
 use std::alloc::{AllocError, Global};
 use tail_policy::TraceNote;
 use tenant_rules::Reply;
 use tenant_stores::Stores;
 
-/// One use of the texts of an origin. The answer is their keys, which its spans share.
+/// One use of the texts of an origin. Its resource isn't looked up where keys of texts with the same one are given,
+/// which are in hand. The answer is the keys of the uses.
+fn hold_texts(
+    stores: &mut Stores<TraceNote>,
+    tenant: u32,
+    origin: &SpanOrigin,
+    like: Option<TextKeys>,
+) -> Result<TextKeys, AllocError>
+    requires like { IsLike like origin.now (part tenant stores.old) }
+    ensures uses_added { IfOk result (λ keys. WhereLike like (part tenant stores.old)
+        (λ n pending held. HoldsAll (text_keys keys) (part tenant stores.old)
+        (part tenant stores.new))) }
+    ensures store_invariant { IfOk result
+        (λ keys. WhereLike like (part tenant stores.old)
+        (λ n pending held. StoreInvariant n pending (text_keys keys ++ held)
+        (part tenant stores.new))) }
+    ensures origin { IfOk result (λ keys. WhereLike like (part tenant stores.old)
+        (λ n pending held. origin_in (part tenant stores.new) keys ≡ origin_view origin.now)) }
+    ensures shows { OnOk result (ShowsSameLike like (part tenant stores.old)
+        (part tenant stores.new)) }
+    ensures stay { OnOk result (WhereLike like (part tenant stores.old)
+        (λ n pending held. TextsStay held (part tenant stores.old) (part tenant stores.new))) }
+    ensures others_unchanged { OthersUnchanged tenant stores.old stores.new }
+    ensures on_refusal { OnErr result (WhereLike like (part tenant stores.old)
+        (λ n pending held. part tenant stores.new ≡ part tenant stores.old)) }
+{
+    match like {
+        Some(keys) => {
+            let again = stores.hold_scope(tenant, keys, origin.scope(), origin.scope_schema_url())?;
+            Ok(again)
+        }
+        None => {
+            let keys = stores.hold_all(
+                tenant,
+                origin.resource(),
+                origin.resource_schema_url(),
+                origin.scope(),
+                origin.scope_schema_url(),
+            )?;
+            Ok(keys)
+        }
+    }
+}
+
+/// One use of the texts of an origin, of which those of its resource may be given by keys in hand. The answer is their
+/// keys, which its spans share.
 fn hold_origin(
     alloc: Global,
     stores: &mut Stores<TraceNote>,
     tenant: u32,
     origin: &SpanOrigin,
+    like: Option<TextKeys>,
 ) -> Result<SharedKeys, AllocError>
-    ensures uses_added { IfOk result (λ keys. WhereSound (part tenant stores.old)
+    requires like { IsLike like origin.now (part tenant stores.old) }
+    ensures uses_added { IfOk result (λ keys. WhereLike like (part tenant stores.old)
         (λ n pending held. HoldsAll (text_keys keys.keys) (part tenant stores.old)
         (part tenant stores.new))) }
     ensures store_invariant { IfOk result
-        (λ keys. WhereSound (part tenant stores.old)
+        (λ keys. WhereLike like (part tenant stores.old)
         (λ n pending held. StoreInvariant n pending (text_keys keys.keys ++ held)
         (part tenant stores.new))) }
-    ensures origin { IfOk result (λ keys. WhereSound (part tenant stores.old)
+    ensures origin { IfOk result (λ keys. WhereLike like (part tenant stores.old)
         (λ n pending held. origin_in (part tenant stores.new) keys.keys ≡ origin_view origin.now)) }
-    ensures shows { OnOk result (ShowsSame (part tenant stores.old) (part tenant stores.new)) }
-    ensures stay { OnOk result (WhereSound (part tenant stores.old)
+    ensures shows { OnOk result (ShowsSameLike like (part tenant stores.old)
+        (part tenant stores.new)) }
+    ensures stay { OnOk result (WhereLike like (part tenant stores.old)
         (λ n pending held. TextsStay held (part tenant stores.old) (part tenant stores.new))) }
     ensures others_unchanged { OthersUnchanged tenant stores.old stores.new }
-    ensures on_refusal { OnErr result (WhereSound (part tenant stores.old)
+    ensures on_refusal { OnErr result (WhereLike like (part tenant stores.old)
         (λ n pending held. part tenant stores.new ≡ part tenant stores.old)) }
 {
-    let keys = stores.hold_all(
-        tenant,
-        origin.resource(),
-        origin.resource_schema_url(),
-        origin.scope(),
-        origin.scope_schema_url(),
-    )?;
+    let keys = hold_texts(stores, tenant, origin, like)?;
     match SharedKeys::of(alloc, tenant, keys) {
         Ok(shared) => Ok(shared),
         Err(refused) => {
@@ -78,6 +121,8 @@ pub struct HeldOrigins {
     places: Vec<usize>,
     /// The keys of those whose texts are, in the order in which they were held.
     keys: Vec<SharedKeys>,
+    /// Which origin was held last, if any was.
+    last: usize,
 }
 
 impl HeldOrigins {
@@ -91,6 +136,7 @@ impl HeldOrigins {
         Ok(HeldOrigins {
             places,
             keys: Vec::new(alloc),
+            last: 0,
         })
     }
 
@@ -100,6 +146,40 @@ impl HeldOrigins {
         ensures { result ≡ nat_lt 0 (place_of self.now index) }
     {
         self.places[index] > 0
+    }
+
+    /// Where the keys of the origin that was held last stand, if it is of the resource spans with this index of their
+    /// first origin.
+    fn place_like(&self, origins: &[SpanOrigin], first: u32) -> Option<usize>
+        requires many { length self.now.places.items ≡ length origins.now }
+        ensures { IfSome result (λ place. IsPlaceLike origins.now self.now first place) }
+    {
+        let last = self.last;
+        if last >= origins.len() {
+            return None;
+        }
+        let place = self.places[last];
+        if place > 0 && place <= self.keys.len() && origins[last].first() == first {
+            Some(place - 1)
+        } else {
+            None
+        }
+    }
+
+    /// The keys of the origin that was held last, where this one is of the same resource spans: they have the same
+    /// resource, which isn't compared with itself then.
+    fn keys_like(&self, origins: &[SpanOrigin], index: usize) -> Option<TextKeys>
+        requires many { length self.now.places.items ≡ length origins.now }
+        requires within { index < length origins.now }
+        requires grouped { IsGrouped origins.now index }
+        ensures among { AreAmong (keys_if result) (held_keys self.now) }
+        ensures like { (p : Part Note) → AreHeldAt origins.now self.now p → IfSome result (λ keys.
+            HasSameResource (origin_in p keys) (origin_at origins.now index)) }
+    {
+        match self.place_like(origins, origins[index].first()) {
+            Some(place) => Some(self.keys[place].keys()),
+            None => None,
+        }
     }
 
     /// Where an origin's keys stand, whose texts are held from the first time on.
@@ -113,6 +193,7 @@ impl HeldOrigins {
     ) -> Result<usize, AllocError>
         requires origins { AreHeldAt origins.now self.old (part tenant stores.old) }
         requires within { index < length origins.now }
+        requires grouped { IsGrouped origins.now index }
         ensures place { IfOk result (λ place. place < length self.new.keys.items) }
         ensures origin { IfOk result (λ place.
             WhereHeld (held_keys self.old) (part tenant stores.old) (λ n pending held.
@@ -127,24 +208,28 @@ impl HeldOrigins {
             (WhereHeld (held_keys self.old) (part tenant stores.old)
             (λ n pending held. StoreInvariant n pending (held_keys self.new ++ held)
             (part tenant stores.new))) }
-        ensures shows { OnOk result (ShowsSame (part tenant stores.old) (part tenant stores.new)) }
+        ensures shows { OnOk result (ShowsSameHeld (held_keys self.old) (part tenant stores.old)
+            (part tenant stores.new)) }
         ensures others_unchanged { OthersUnchanged tenant stores.old stores.new }
         ensures noted { IfOk result (λ place. place_of self.new index ≡ place + 1) }
         ensures again { 0 < place_of self.old index → (self.new ≡ self.old)
             × (part tenant stores.new ≡ part tenant stores.old) }
         ensures on_refusal { OnErr result (self.new.keys.items ≡ self.old.keys.items) }
-        ensures part_on_refusal { OnErr result (WhereSound (part tenant stores.old)
+        ensures part_on_refusal { OnErr result
+            (WhereHeld (held_keys self.old) (part tenant stores.old)
             (λ n pending held. part tenant stores.new ≡ part tenant stores.old)) }
     {
         let place = self.places[index];
         if place > 0 {
             return Ok(place - 1);
         }
+        let like = self.keys_like(origins, index);
         self.keys.reserve(1)?;
-        let keys = hold_origin(alloc, stores, tenant, &origins[index])?;
+        let keys = hold_origin(alloc, stores, tenant, &origins[index], like)?;
         let count = self.keys.len();
         self.keys.push_reserved(keys);
         self.places[index] = count + 1;
+        self.last = index;
         Ok(count)
     }
 }

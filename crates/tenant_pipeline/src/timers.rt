@@ -8,7 +8,7 @@ ghost use Rattle.tenant_pipeline.specs.StateIn.{part_in, written_state_in};
 ghost use Rattle.tenant_pipeline.specs.Invariant.{WrittenInvariant, PipelineInvariantAt, IsSwept};
 ghost use Rattle.tenant_stores.specs.Promises.{OthersUnchanged};
 
-use crate::outbox::encoded;
+use crate::outbox::offer;
 use crate::pipeline::{Pipeline, lesser};
 use crate::undo::Undo;
 use drop_ledger::Place;
@@ -84,8 +84,15 @@ impl Pipeline {
             return Ok(());
         };
         let tenant = self.tenant;
-        let batch = encoded(self.alloc, stores, tenant, due, self.batcher.spans())?;
-        self.offer(batch)?;
+        offer(
+            self.alloc,
+            stores,
+            tenant,
+            &mut self.sender,
+            &mut self.ledger,
+            due,
+            self.batcher.spans(),
+        )?;
         let fired = self.batcher.fire();
         stores.flush(tenant, fired.spans());
         self.clock = due;

@@ -1,13 +1,13 @@
 //! Batches of a drain that aren't written yet: their spans are in the stores still.
 
-ghost use Rattle.std.specs.Prelude.{◌≡◌, ◌<◌, ◌≤◌, ◌↔◌, ◌++◌, ◌∷◌, [], length, drop, IsTrue, IfOk, MatchOption, OnOk, OnErr};
+ghost use Rattle.std.specs.Prelude.{◌≡◌, ◌<◌, ◌≤◌, ◌↔◌, ◌++◌, ◌∷◌, [], ℕ, length, drop, IsTrue, IfOk, MatchOption, OnOk, OnErr};
 ghost use Rattle.span_batcher.specs.Maps.{spans_of};
 ghost use Rattle.tenant_stores.specs.Part.{part};
 ghost use Rattle.tenant_rules.specs.Batching.{as_sent};
 ghost use Rattle.tenant_pipeline.specs.StateIn.{batch_at, with_behind};
-ghost use Rattle.tenant_pipeline.specs.Unsent.{AddsAll};
+ghost use Rattle.tenant_pipeline.specs.Unsent.{AddsAll, has_no_room};
 
-use crate::outbox::encoded;
+use crate::outbox::{is_too_large, written};
 use drop_ledger::{Ledger, Place};
 use send_queue::{OfferFault, SendQueue};
 use span_batcher::Batch;
@@ -130,7 +130,7 @@ pub(crate) fn write(
         with_behind (as_sent (batch_at (part tenant stores.now) batch.now) ∷ []) sender.old) }
     ensures on_refusal { OnErr result (sender.new ≡ sender.old) }
 {
-    let sent = encoded(alloc, stores, tenant, batch.moment, batch.keys.as_slice())?;
+    let sent = written(alloc, stores, tenant, batch.moment, batch.keys.as_slice())?;
     match sender.offer(sent) {
         Ok(()) => Ok(()),
         Err(OfferFault::Full(_)) => unreachable!(),
@@ -142,7 +142,7 @@ pub(crate) fn write(
 #[derive(Drop)]
 pub(crate) struct Leaving {
     alloc: Global,
-    /// Those for which the queue has room.
+    /// Those that find room.
     pub(crate) unsent: Unsent,
     /// The keys of the spans in the others, and in those that were written. They are still stored.
     pub(crate) gone: Vec<u32>,
@@ -161,22 +161,44 @@ impl Leaving {
         }
     }
 
-    /// A batch of pending spans, by their keys, that formed at a moment, in milliseconds. It waits behind the others;
-    /// where as many wait as may, its spans are dropped.
+    /// Whether a batch of the tenant's spans at these keys finds no room behind the others, whenever it forms. Its
+    /// spans are looked at only where fewer wait than may.
+    fn overflows(
+        &self,
+        stores: &Stores<TraceNote>,
+        tenant: u32,
+        sender: &SendQueue,
+        keys: &[u32],
+    ) -> Result<bool, AllocError>
+        ensures { IfOk result (λ overflows. (moment : ℕ) → overflows ≡ has_no_room
+            (part tenant stores.now) (record { moment = moment; spans = keys.now })
+            self.now.unsent sender.now) }
+    {
+        let room = (sender.capacity() as usize).saturating_sub(sender.queued());
+        if room <= self.unsent.len() {
+            return Ok(true);
+        }
+        is_too_large(self.alloc, stores, tenant, keys)
+    }
+
+    /// A batch of the tenant's pending spans, by their keys, that formed at a moment, in milliseconds. It waits behind
+    /// the others; where it finds no room, its spans are dropped.
     pub(crate) fn add(
         &mut self,
+        stores: &Stores<TraceNote>,
+        tenant: u32,
         sender: &SendQueue,
         ledger: &mut Ledger,
         moment: u64,
         keys: &[u32],
     ) -> Result<(), AllocError>
         requires pending { length keys.now ≤ ledger.old.places.pending }
-        ensures { OnOk result (AddsAll (record { moment = moment; spans = keys.now } ∷ [])
+        ensures { OnOk result (AddsAll (part tenant stores.now)
+            (record { moment = moment; spans = keys.now } ∷ [])
             sender.now self.old self.new ledger.old ledger.new) }
     {
         let spans = keys.len() as u64;
-        let room = (sender.capacity() as usize).saturating_sub(sender.queued());
-        if room <= self.unsent.len() {
+        if self.overflows(stores, tenant, sender, keys)? {
             self.gone.extend_from_slice(keys)?;
             ledger.move_spans(Place::Pending, Place::QueueFull, spans);
             return Ok(());
@@ -189,16 +211,25 @@ impl Leaving {
     /// Several batches of pending spans, one after the other.
     pub(crate) fn add_all(
         &mut self,
+        stores: &Stores<TraceNote>,
+        tenant: u32,
         sender: &SendQueue,
         ledger: &mut Ledger,
         batches: &[Batch],
     ) -> Result<(), AllocError>
         requires pending { length (spans_of batches.now) ≤ ledger.old.places.pending }
-        ensures { OnOk result
-            (AddsAll batches.now sender.now self.old self.new ledger.old ledger.new) }
+        ensures { OnOk result (AddsAll (part tenant stores.now) batches.now
+            sender.now self.old self.new ledger.old ledger.new) }
     {
         for batch in batches {
-            self.add(sender, ledger, batch.moment(), batch.spans())?;
+            self.add(
+                stores,
+                tenant,
+                sender,
+                ledger,
+                batch.moment(),
+                batch.spans(),
+            )?;
         }
         Ok(())
     }

@@ -22,7 +22,7 @@ use Rattle.tenant_rules.specs.Groups.{decided, cut_short, late, groups_of, group
 use Rattle.tenant_rules.specs.Sender.{BatchData, SenderData, sizes, active_sizes}
 use Rattle.tenant_rules.specs.Batching.{rules_of, as_sent, all_sent, formed, pending, waiting_rows, spans_in}
 use Rattle.tenant_rules.specs.Intake.{IntakeData}
-use Rattle.tenant_rules.specs.Sending.{EndedData, all_offered, overflow, met_full_queue}
+use Rattle.tenant_rules.specs.Sending.{EndedData, all_offered, overflow, met_no_room}
 use Rattle.tenant_rules.specs.State.{State, ended_places, not_sampled, ledger_at}
 use Rattle.tenant_rules.specs.Timers.{recount, all_queued, remembered}
 use Rattle.tenant_rules.specs.Machine.{has_row, sampled_in, joined, evict_waiting, evict_first, evicted, opens, joins, cached_or_opens, late_or_opens, goes, counted_in}
@@ -73,19 +73,19 @@ came_is : (w : SectionData) (i : IntakeData) (B : List Taken) (e : ℕ) (D : Sen
     length (opened w B) ≡ k → settled w e None (spans_in_rows w B) (length (opened w B)) (opened w B) ≡ S → waiting_rows w e None B ≡ W → pending w e None B ≡ P → caches_of w e None (placements w B) (opened w B) ≡ K →
     length B ≡ accepted → too_early w (spans_in_rows w B) (opened w B) (opened w B) ≡ early → not_sampled w e None B ≡ ns →
     L ≡ set_counts (based (ledger_at w i e None D (ended_places es)) accepted early) (spans_in W) (length P.spans) (sizes (all_offered new D).queue) (active_sizes (all_offered new D).active) ns ((ended_places es).queue_full + sizes (overflow new D)) →
-    state_with w (record i { spans = B }) e None (all_offered new D) (map met_full_queue (overflow new D) ++ es)
+    state_with w (record i { spans = B }) e None (all_offered new D) (map met_no_room (overflow new D) ++ es)
     ≡ record (state_with w i e None D es) { opened = k; settled = S; waiting = W; caches = K; pending = P; sender = all_offered new D; ledger = L }
 came_is w i B e D es new k S W P accepted early ns L K opens settles waits pends remembers takes evicts drops counts =
     let l = ledger_at w i e None D (ended_places es) in
     let D' = all_offered new D in
     let f = (ended_places es).queue_full + sizes (overflow new D) in
-    let now : ledger_at w (record i { spans = B }) e None D' (ended_places (map met_full_queue (overflow new D) ++ es))
+    let now : ledger_at w (record i { spans = B }) e None D' (ended_places (map met_no_room (overflow new D) ++ es))
     ≡ set_counts (based l (length B) (too_early w (spans_in_rows w B) (opened w B) (opened w B))) (spans_in (waiting_rows w e None B)) (length (pending w e None B).spans) (sizes D'.queue) (active_sizes D'.active) (not_sampled w e None B) f =
     ap (λ (q : Places). ledger_at w (record i { spans = B }) e None D' q) (ended_met (overflow new D) es) ∙ counts_came w i B e D D' (ended_places es) f in
     let same = based_same l (length B) accepted _ early (spans_in (waiting_rows w e None B)) (spans_in W) (length (pending w e None B).spans) (length P.spans) (sizes D'.queue) (active_sizes D'.active) (not_sampled w e None B) ns f f
     takes evicts (ap spans_in waits) (ap (λ (q : batcher.State Arrival). length q.spans) pends) drops refl in
-    let ledger_is : ledger_at w (record i { spans = B }) e None D' (ended_places (map met_full_queue (overflow new D) ++ es)) ≡ L = now ∙ (same ∙ sym counts) in
-    parts_same (state_with w i e None D es) (length (opened w B)) k _ S (waiting_rows w e None B) W (pending w e None B) P D' (ledger_at w (record i { spans = B }) e None D' (ended_places (map met_full_queue (overflow new D) ++ es))) L (caches_of w e None (placements w B) (opened w B)) K opens settles waits pends ledger_is remembers
+    let ledger_is : ledger_at w (record i { spans = B }) e None D' (ended_places (map met_no_room (overflow new D) ++ es)) ≡ L = now ∙ (same ∙ sym counts) in
+    parts_same (state_with w i e None D es) (length (opened w B)) k _ S (waiting_rows w e None B) W (pending w e None B) P D' (ledger_at w (record i { spans = B }) e None D' (ended_places (map met_no_room (overflow new D) ++ es))) L (caches_of w e None (placements w B) (opened w B)) K opens settles waits pends ledger_is remembers
 
 -- ---- groups and batches
 
@@ -170,7 +170,7 @@ more e a A = record { moment = e; arrival = a } ∷ A
 -- with the batches that it fills, definitions and machine come to the same state
 abbrev pub Came : SectionData → IntakeData → ℕ → SenderData → List EndedData → Arrival → Type 0
 Came w i e D es a = (new : List BatchData) × (formed w e None (more e a i.spans) ≡ formed w e None i.spans ++ new)
-    × (state_with w (record i { spans = more e a i.spans }) e None (all_offered new D) (map met_full_queue (overflow new D) ++ es) ≡ goes e a (counted_in (state_with w i e None D es)))
+    × (state_with w (record i { spans = more e a i.spans }) e None (all_offered new D) (map met_no_room (overflow new D) ++ es) ≡ goes e a (counted_in (state_with w i e None D es)))
 
 one_taken : (e : ℕ) (a : Arrival) (A : List Taken) → length (more e a A) ≡ length A + 1
 one_taken e a A = omega arith

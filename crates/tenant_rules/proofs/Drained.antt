@@ -20,7 +20,7 @@ use Rattle.tenant_rules.specs.Placement.{opened, placements, spans_in_rows}
 use Rattle.tenant_rules.specs.Sender.{BatchData, SenderData, sizes, active_sizes}
 use Rattle.tenant_rules.specs.Batching.{rules_of, as_sent, all_sent, formed, pending, waiting_rows, spans_in}
 use Rattle.tenant_rules.specs.Intake.{IntakeData, intake}
-use Rattle.tenant_rules.specs.Sending.{EndedData, newly_formed, all_offered, overflow, met_full_queue, sender, ended}
+use Rattle.tenant_rules.specs.Sending.{EndedData, newly_formed, all_offered, overflow, met_no_room, sender, ended}
 use Rattle.tenant_rules.specs.State.{State, ended_places, not_sampled, ledger_at, state_at, state}
 use Rattle.tenant_rules.specs.Answers.{answer}
 use Rattle.tenant_rules.specs.Timers.{recount, all_queued, settle, sample, decide_row, advanced}
@@ -124,7 +124,7 @@ counts_are w i e D D' P f = refl
 
 drain_first : (w : SectionData) (i : IntakeData) (e : ℕ) (D : SenderData) (es : List EndedData) (M : List BatchData) → 0 < w.tail_sampling.num_traces → AreValidRules (rules_of w) → TakenBy e i.spans →
     M ≡ all_sent (closing w.tail_sampling.policies e (waiting_rows w e None i.spans) (pending w e None i.spans)) →
-    state_with w i e (Some e) (all_offered M D) (map met_full_queue (overflow M D) ++ es) ≡ drain e (state_with w i e None D es)
+    state_with w i e (Some e) (all_offered M D) (map met_no_room (overflow M D) ++ es) ≡ drain e (state_with w i e None D es)
 drain_first w i e D es M pos sound by same =
     let A = i.spans in
     let p = w.tail_sampling.policies in
@@ -165,14 +165,14 @@ drain_first w i e D es M pos sound by same =
     let drops = dropped_drained w e N R R pos opens in
     let ns : not_sampled w e (Some e) A ≡ n1 = omega (arith, drops) in
     let f = (ended_places es).queue_full + sizes (overflow M D) in
-    let now : ledger_at w i e (Some e) D' (ended_places (map met_full_queue (overflow M D) ++ es)) ≡ set_counts l (spans_in (waiting_rows w e (Some e) A)) (length (pending w e (Some e) A).spans) (sizes D'.queue) (active_sizes D'.active) (not_sampled w e (Some e) A) f =
+    let now : ledger_at w i e (Some e) D' (ended_places (map met_no_room (overflow M D) ++ es)) ≡ set_counts l (spans_in (waiting_rows w e (Some e) A)) (length (pending w e (Some e) A).spans) (sizes D'.queue) (active_sizes D'.active) (not_sampled w e (Some e) A) f =
     ap (λ (z : Places). ledger_at w i e (Some e) D' z) (ended_met (overflow M D) es) ∙ counts_are w i e D D' (ended_places es) f in
-    let ledger_is : ledger_at w i e (Some e) D' (ended_places (map met_full_queue (overflow M D) ++ es)) ≡ (all_queued B t0).ledger =
+    let ledger_is : ledger_at w i e (Some e) D' (ended_places (map met_no_room (overflow M D) ++ es)) ≡ (all_queued B t0).ledger =
     now ∙ (set_same l (spans_in (waiting_rows w e (Some e) A)) u (length (pending w e (Some e) A).spans) 0 (sizes D'.queue) (sizes (all_offered B t.sender).queue) (active_sizes D'.active) (active_sizes (all_offered B t.sender).active) (not_sampled w e (Some e) A) n1 f (f1 + sizes (overflow B t.sender))
     (ap spans_in no_rows ∙ sym (ap spans_in waits1)) (ap (λ (z : batcher.State Arrival). length z.spans) pends) (ap (λ (z : SenderData). sizes z.queue) sender_is) (ap (λ (z : SenderData). active_sizes z.active) sender_is) ns (omega (arith, over_all)) ∙ sym queued) in
     let base : State = record s { drained = true } in
-    let all : state_with w i e (Some e) D' (map met_full_queue (overflow M D) ++ es) ≡ record base { clock = e; settled = s.settled ++ all_done p W; waiting = []; pending = fired (all_added p e W P); sender = D'; ledger = (all_queued B t0).ledger } =
-    state_same base (settled w e (Some e) N (length R) R) (settled w e None N (length R) R ++ all_done p W) (waiting_rows w e (Some e) A) [] (pending w e (Some e) A) (fired (all_added p e W P)) D' e (ledger_at w i e (Some e) D' (ended_places (map met_full_queue (overflow M D) ++ es))) (all_queued B t0).ledger (caches_of w e (Some e) (placements w A) R) s.caches (settled_drained w e e (length R) N R opens) no_rows pends ledger_is (caches_drained w e (placements w A) R) in
+    let all : state_with w i e (Some e) D' (map met_no_room (overflow M D) ++ es) ≡ record base { clock = e; settled = s.settled ++ all_done p W; waiting = []; pending = fired (all_added p e W P); sender = D'; ledger = (all_queued B t0).ledger } =
+    state_same base (settled w e (Some e) N (length R) R) (settled w e None N (length R) R ++ all_done p W) (waiting_rows w e (Some e) A) [] (pending w e (Some e) A) (fired (all_added p e W P)) D' e (ledger_at w i e (Some e) D' (ended_places (map met_no_room (overflow M D) ++ es))) (all_queued B t0).ledger (caches_of w e (Some e) (placements w A) R) s.caches (settled_drained w e e (length R) N R opens) no_rows pends ledger_is (caches_drained w e (placements w A) R) in
     let sent : record base { clock = e; settled = s.settled ++ all_done p W; waiting = []; pending = fired (all_added p e W P); sender = D'; ledger = (all_queued B t0).ledger } ≡ record base { clock = e; settled = s.settled ++ all_done p W; waiting = []; pending = fired (all_added p e W P); sender = all_offered B t.sender; ledger = (all_queued B t0).ledger } =
     ap (λ (z : SenderData). record base { clock = e; settled = s.settled ++ all_done p W; waiting = []; pending = fired (all_added p e W P); sender = z; ledger = (all_queued B t0).ledger }) sender_is in
     let made : resent (all_offered B t.sender) (all_queued B t0).ledger (record (set_to e t) { drained = true; pending = fired t.pending }) ≡ record base { clock = e; settled = s.settled ++ all_done p W; waiting = []; pending = fired (all_added p e W P); sender = all_offered B t.sender; ledger = (all_queued B t0).ledger } =
@@ -183,19 +183,19 @@ drain_first w i e D es M pos sound by same =
 
 -- ---- any drain
 
-pub met_append : (xs ys : List BatchData) (es : List EndedData) → ended_places (map met_full_queue (xs ++ ys) ++ es) ≡ ended_places (map met_full_queue ys ++ (map met_full_queue xs ++ es))
+pub met_append : (xs ys : List BatchData) (es : List EndedData) → ended_places (map met_no_room (xs ++ ys) ++ es) ≡ ended_places (map met_no_room ys ++ (map met_no_room xs ++ es))
 met_append xs ys es =
     let P = ended_places es in
     let both : P.queue_full + sizes (xs ++ ys) ≡ P.queue_full + sizes xs + sizes ys = omega (arith, sizes-append xs ys) in
-    ended_met (xs ++ ys) es ∙ (ap (λ (n : ℕ). record P { queue_full = n }) both ∙ (ap (λ (q : Places). record q { queue_full = q.queue_full + sizes ys }) (sym (ended_met xs es)) ∙ sym (ended_met ys (map met_full_queue xs ++ es))))
+    ended_met (xs ++ ys) es ∙ (ap (λ (n : ℕ). record P { queue_full = n }) both ∙ (ap (λ (q : Places). record q { queue_full = q.queue_full + sizes ys }) (sym (ended_met xs es)) ∙ sym (ended_met ys (map met_no_room xs ++ es))))
 
 drain_by : (w : SectionData) (i : IntakeData) (d e : ℕ) (o : Option ℕ) (D : SenderData) (es : List EndedData) (new : List BatchData) → 0 < w.tail_sampling.num_traces → AreValidRules (rules_of w) → d ≤ e → TakenBy d i.spans → DrainedBy o d i.spans →
     new ≡ drop (length (formed w d o i.spans)) (formed w e (Some (unwrap_or o e)) i.spans) →
-    state_with w i e (Some (unwrap_or o e)) (all_offered new D) (map met_full_queue (overflow new D) ++ es) ≡ drain e (advanced e (state_with w i d o D es))
+    state_with w i e (Some (unwrap_or o e)) (all_offered new D) (map met_no_room (overflow new D) ++ es) ≡ drain e (advanced e (state_with w i d o D es))
 drain_by w i d e (Some x) D es new pos sound le by drain_at is =
     let A = i.spans in
     let none : new ≡ [] = is ∙ (ap (drop (length (formed w d (Some x) A))) (formed_stay w x d e A drain_at.0 (omega (arith, le, drain_at.0)) ∙ sym (append-nil (formed w d (Some x) A))) ∙ drop-append_seam (formed w d (Some x) A) []) in
-    ap (λ (bs : List BatchData). state_with w i e (Some x) (all_offered bs D) (map met_full_queue (overflow bs D) ++ es)) none
+    ap (λ (bs : List BatchData). state_with w i e (Some x) (all_offered bs D) (map met_no_room (overflow bs D) ++ es)) none
     ∙ ap (drain e) (stays w i x d e D es sound drain_at.0 le drain_at.1)
 drain_by w i d e None D es new pos sound le by drain_at is =
     let A = i.spans in
@@ -206,13 +206,13 @@ drain_by w i d e None D es new pos sound le by drain_at is =
     let formed_is : formed w e (Some e) A ≡ formed w d None A ++ (B ++ M) = formed_drained w e A pos sound later_by ∙ (ap (λ (bs : List BatchData). bs ++ M) (formed_later w d e A pos sound le by) ∙ append_assoc (formed w d None A) B M) in
     let all : new ≡ B ++ M = is ∙ (ap (drop (length (formed w d None A))) formed_is ∙ drop-append_seam (formed w d None A) (B ++ M)) in
     let sent1 = all_offered B D in
-    let es1 = map met_full_queue (overflow B D) ++ es in
-    let first : state_with w i e (Some e) (all_offered new D) (map met_full_queue (overflow new D) ++ es) ≡ state_with w i e (Some e) (all_offered (B ++ M) D) (map met_full_queue (overflow (B ++ M) D) ++ es) =
-    ap (λ (bs : List BatchData). state_with w i e (Some e) (all_offered bs D) (map met_full_queue (overflow bs D) ++ es)) all in
-    let places : ended_places (map met_full_queue (overflow (B ++ M) D) ++ es) ≡ ended_places (map met_full_queue (overflow M sent1) ++ es1) =
-    ap (λ (bs : List BatchData). ended_places (map met_full_queue bs ++ es)) (overflow-append B M D) ∙ met_append (overflow B D) (overflow M sent1) es in
-    let second : state_with w i e (Some e) (all_offered (B ++ M) D) (map met_full_queue (overflow (B ++ M) D) ++ es) ≡ state_with w i e (Some e) (all_offered M sent1) (map met_full_queue (overflow M sent1) ++ es1) =
-    ap (λ (s : SenderData). state_at w A e (Some e) s (ledger_at w i e (Some e) s (ended_places (map met_full_queue (overflow (B ++ M) D) ++ es)))) (all_offered-append B M D)
+    let es1 = map met_no_room (overflow B D) ++ es in
+    let first : state_with w i e (Some e) (all_offered new D) (map met_no_room (overflow new D) ++ es) ≡ state_with w i e (Some e) (all_offered (B ++ M) D) (map met_no_room (overflow (B ++ M) D) ++ es) =
+    ap (λ (bs : List BatchData). state_with w i e (Some e) (all_offered bs D) (map met_no_room (overflow bs D) ++ es)) all in
+    let places : ended_places (map met_no_room (overflow (B ++ M) D) ++ es) ≡ ended_places (map met_no_room (overflow M sent1) ++ es1) =
+    ap (λ (bs : List BatchData). ended_places (map met_no_room bs ++ es)) (overflow-append B M D) ∙ met_append (overflow B D) (overflow M sent1) es in
+    let second : state_with w i e (Some e) (all_offered (B ++ M) D) (map met_no_room (overflow (B ++ M) D) ++ es) ≡ state_with w i e (Some e) (all_offered M sent1) (map met_no_room (overflow M sent1) ++ es1) =
+    ap (λ (s : SenderData). state_at w A e (Some e) s (ledger_at w i e (Some e) s (ended_places (map met_no_room (overflow (B ++ M) D) ++ es)))) (all_offered-append B M D)
     ∙ ap (λ (q : Places). state_at w A e (Some e) (all_offered M sent1) (ledger_at w i e (Some e) (all_offered M sent1) q)) places in
     first ∙ (second ∙ (drain_first w i e sent1 es1 M pos sound later_by refl ∙ ap (drain e) (elapsed w i d e D es pos sound le by)))
 

@@ -12,7 +12,7 @@ use Rattle.tenant_rules.specs.Placement.{opened, placements, spans_in_rows}
 use Rattle.tenant_rules.specs.Sender.{BatchData, SenderData, sizes, active_sizes}
 use Rattle.tenant_rules.specs.Batching.{rules_of, all_sent, pending, waiting_rows, spans_in}
 use Rattle.tenant_rules.specs.Intake.{IntakeData}
-use Rattle.tenant_rules.specs.Sending.{EndedData, all_offered, overflow, met_full_queue}
+use Rattle.tenant_rules.specs.Sending.{EndedData, all_offered, overflow, met_no_room}
 use Rattle.tenant_rules.specs.State.{State, ended_places, not_sampled, ledger_at, state_at}
 use Rattle.tenant_rules.specs.Timers.{advanced}
 use Rattle.tenant_rules.proofs.Times as times
@@ -31,9 +31,9 @@ state_with w i e x sender ended = state_at w i.spans e x sender (ledger_at w i e
 abbrev pub between : SectionData → ℕ → ℕ → List Taken → List BatchData
 between w d e A = all_sent (meanwhile w.tail_sampling.policies e (waiting_rows w d None A) (pending w d None A))
 
--- batches that met a full queue
+-- batches that found no room
 pub ended_met : (bs : List BatchData) (es : List EndedData) →
-    ended_places (map met_full_queue bs ++ es) ≡ record (ended_places es) { queue_full = (ended_places es).queue_full + sizes bs }
+    ended_places (map met_no_room bs ++ es) ≡ record (ended_places es) { queue_full = (ended_places es).queue_full + sizes bs }
 ended_met [] es = ap (λ (n : ℕ). record (ended_places es) { queue_full = n }) none
   where
     none : (ended_places es).queue_full ≡ (ended_places es).queue_full + 0
@@ -62,7 +62,7 @@ pub state_same : (s : State) (S S' : List SettledData) (W W' : List WaitingData)
 state_same s S S' W W' P P' D e L L' K K' a b c d f = cc (a, b, c, d, f)
 
 pub elapsed : (w : SectionData) (i : IntakeData) (d e : ℕ) (D : SenderData) (es : List EndedData) → 0 < w.tail_sampling.num_traces → AreValidRules (rules_of w) → d ≤ e → TakenBy d i.spans →
-    state_with w i e None (all_offered (between w d e i.spans) D) (map met_full_queue (overflow (between w d e i.spans) D) ++ es) ≡ advanced e (state_with w i d None D es)
+    state_with w i e None (all_offered (between w d e i.spans) D) (map met_no_room (overflow (between w d e i.spans) D) ++ es) ≡ advanced e (state_with w i d None D es)
 elapsed w i d e D es pos sound le by =
     let A = i.spans in
     let p = w.tail_sampling.policies in
@@ -85,13 +85,13 @@ elapsed w i d e D es pos sound le by =
     let pends : pending w e None A ≡ left_then p e W P = pending_later w d e A pos sound le by in
     let drops = dropped_later w d e d N R R pos le opens opens in
     let ns : not_sampled w e None A ≡ not_sampled w d None A + times.lost p e W = omega (arith, drops) in
-    let now : ledger_at w i e None D' (ended_places (map met_full_queue (overflow M D) ++ es)) ≡ set_counts l (spans_in (waiting_rows w e None A)) (length (pending w e None A).spans) (sizes D'.queue) (active_sizes D'.active) (not_sampled w e None A) f =
+    let now : ledger_at w i e None D' (ended_places (map met_no_room (overflow M D) ++ es)) ≡ set_counts l (spans_in (waiting_rows w e None A)) (length (pending w e None A).spans) (sizes D'.queue) (active_sizes D'.active) (not_sampled w e None A) f =
     ap (λ (q : Places). ledger_at w i e None D' q) (ended_met (overflow M D) es) ∙ counts_are w i d e D D' (ended_places es) f in
     let then_is : set_counts l (spans_in (waiting_rows w e None A)) (length (pending w e None A).spans) (sizes D'.queue) (active_sizes D'.active) (not_sampled w e None A) f
     ≡ set_counts l (spans_in t.waiting) (length t.pending.spans) (sizes t.sender.queue) (active_sizes t.sender.active) (not_sampled w d None A + times.lost p e W) f =
     set_same l _ _ _ _ _ _ _ _ _ _ f f (ap spans_in waits ∙ sym (ap (λ (z : State). spans_in z.waiting) fields)) (ap (λ q. length q.spans) pends ∙ sym (ap (λ (z : State). length z.pending.spans) fields))
     (sym (ap (λ (z : State). sizes z.sender.queue) fields)) (sym (ap (λ (z : State). active_sizes z.sender.active) fields)) ns refl in
-    let ledger_is : ledger_at w i e None D' (ended_places (map met_full_queue (overflow M D) ++ es)) ≡ t.ledger = now ∙ (then_is ∙ sym tally) in
-    let all : state_with w i e None D' (map met_full_queue (overflow M D) ++ es) ≡ became s (s.settled ++ done p e W) (later e W) (left_then p e W P) M e t.ledger (due_noted p e W s.caches) =
-    state_same s (settled w e None N (length R) R) (settled w d None N (length R) R ++ done p e W) (waiting_rows w e None A) (later e W) (pending w e None A) (left_then p e W P) D' e (ledger_at w i e None D' (ended_places (map met_full_queue (overflow M D) ++ es))) t.ledger (caches_of w e None (placements w A) R) (due_noted p e W s.caches) settles waits pends ledger_is (caches_later w d e A pos le by) in
+    let ledger_is : ledger_at w i e None D' (ended_places (map met_no_room (overflow M D) ++ es)) ≡ t.ledger = now ∙ (then_is ∙ sym tally) in
+    let all : state_with w i e None D' (map met_no_room (overflow M D) ++ es) ≡ became s (s.settled ++ done p e W) (later e W) (left_then p e W P) M e t.ledger (due_noted p e W s.caches) =
+    state_same s (settled w e None N (length R) R) (settled w d None N (length R) R ++ done p e W) (waiting_rows w e None A) (later e W) (pending w e None A) (left_then p e W P) D' e (ledger_at w i e None D' (ended_places (map met_no_room (overflow M D) ++ es))) t.ledger (caches_of w e None (placements w A) R) (due_noted p e W s.caches) settles waits pends ledger_is (caches_later w d e A pos le by) in
     all ∙ (sym fields ∙ sym (ap (set_to e) (all_ran e s)))

@@ -13,7 +13,7 @@ use Rattle.span_batcher.specs.Timers.{is_due}
 use Rattle.tenant_rules.specs.Arrivals.{Arrival, valid, trace_of}
 use Rattle.tenant_rules.specs.Own.{Own, Post, Turn, Answer, Report, Drain, Retire, clock}
 use Rattle.tenant_rules.specs.Fate.{SettledData, WaitingData, are_sampled}
-use Rattle.tenant_rules.specs.Sender.{BatchData, ActiveData, SenderData, Choice, Retried, Oldest, NoBatch, choice, is_full, in_flight, answered_by}
+use Rattle.tenant_rules.specs.Sender.{BatchData, ActiveData, SenderData, Choice, Retried, Oldest, NoBatch, choice, finds_no_room, in_flight, answered_by}
 use Rattle.tenant_rules.specs.Batching.{all_sent}
 use Rattle.tenant_rules.specs.Intake.{Verdict, shutting_down, counter_limit, exhausted, accepted}
 use Rattle.tenant_rules.specs.Sending.{sender}
@@ -47,7 +47,7 @@ Formed m s = FormedBy m s.sender.queue
 -- ---- batches are offered
 
 queued_formed : (m : ℕ) (b : BatchData) (s : State) → b.moment ≤ m → Formed m s → Formed m (queued b s)
-queued_formed m b s le by = by_test (is_full s.sender)
+queued_formed m b s le by = by_test (finds_no_room b s.sender)
   where
     by_test : (full : Bool) → Formed m (cond full (recount Pending QueueFull b.spans s) (recount Pending Queued b.spans (record s { sender = cond full s.sender (record s.sender { queue = s.sender.queue ++ b ∷ [] }) })))
     by_test true = by

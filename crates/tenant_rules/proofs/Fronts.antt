@@ -11,7 +11,7 @@ use Rattle.decision_cache.specs.Caches.{BothData, noted_in}
 use Rattle.span_batcher.specs.Timers.{is_due}
 use Rattle.tenant_rules.specs.Arrivals.{Arrival}
 use Rattle.tenant_rules.specs.Fate.{WaitingData, are_sampled}
-use Rattle.tenant_rules.specs.Sender.{BatchData, SenderData, is_full, offered}
+use Rattle.tenant_rules.specs.Sender.{BatchData, SenderData, finds_no_room, admitted}
 use Rattle.tenant_rules.specs.Sending.{all_offered}
 use Rattle.tenant_rules.specs.Batching.{all_sent}
 use Rattle.tenant_rules.specs.Ready.{lesser}
@@ -46,8 +46,8 @@ IsFront-push e old s new front now is =
 abbrev pub resent : SenderData → LedgerData → State → State
 resent sender ledger s = record s { sender = sender; ledger = ledger }
 
-queued-is : (b : BatchData) (s : State) → queued b s ≡ resent (offered b s.sender) (queued b s).ledger s
-queued-is b s = by_test (is_full s.sender)
+queued-is : (b : BatchData) (s : State) → queued b s ≡ resent (admitted b s.sender) (queued b s).ledger s
+queued-is b s = by_test (finds_no_room b s.sender)
   where
     by_test : (f : Bool) → cond f (recount Pending QueueFull b.spans s) (recount Pending Queued b.spans (record s { sender = cond f s.sender (record s.sender { queue = s.sender.queue ++ b ∷ [] }) }))
         ≡ resent (cond f s.sender (record s.sender { queue = s.sender.queue ++ b ∷ [] })) (cond f (recount Pending QueueFull b.spans s) (recount Pending Queued b.spans (record s { sender = cond f s.sender (record s.sender { queue = s.sender.queue ++ b ∷ [] }) }))).ledger s
@@ -62,10 +62,10 @@ all_queued-is (b ∷ bs) s =
 -- ---- and they do so whatever the caches have
 
 queued_with : (b : BatchData) (caches : BothData) (s : State) → queued b (record s { caches = caches }) ≡ record (queued b s) { caches = caches }
-queued_with b caches s = by_test (is_full s.sender)
+queued_with b caches s = by_test (finds_no_room b s.sender)
   where
-    by_test : (f : Bool) → cond f (recount Pending QueueFull b.spans (record s { caches = caches })) (recount Pending Queued b.spans (record s { caches = caches; sender = offered b s.sender }))
-        ≡ record (cond f (recount Pending QueueFull b.spans s) (recount Pending Queued b.spans (record s { sender = offered b s.sender }))) { caches = caches }
+    by_test : (f : Bool) → cond f (recount Pending QueueFull b.spans (record s { caches = caches })) (recount Pending Queued b.spans (record s { caches = caches; sender = admitted b s.sender }))
+        ≡ record (cond f (recount Pending QueueFull b.spans s) (recount Pending Queued b.spans (record s { sender = admitted b s.sender }))) { caches = caches }
     by_test true = refl
     by_test false = refl
 

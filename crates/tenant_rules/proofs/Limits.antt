@@ -1,6 +1,6 @@
--- No state has more rows, batches that wait and active batches than its settings allow.
+-- No state has more rows, batches that wait and active batches than its settings allow, and no batch that is too long.
 use Rattle.std.proofs.Common.{◌≡◌, ℕ, zero, suc, ◌+◌, ◌<◌, ◌≤◌, List, [], ◌∷◌, ◌++◌, length, refl, sym, subst, ap, ◌∙◌, arith, length-append, Bool, true, false, cond, Option, Some, None}
-use Rattle.std.specs.Prelude.{drop, option_to_list, nat_lt, ◌==◌}
+use Rattle.std.specs.Prelude.{drop, max, option_to_list, nat_lt, ◌==◌, ◌||◌}
 use Rattle.std.proofs.lemmas.Bool.Decides.{nat_tests}
 use Rattle.std.proofs.lemmas.List.{length-take}
 use Rattle.tail_settings.specs.Section.{SectionData}
@@ -16,7 +16,7 @@ use Rattle.drop_ledger.specs.declared.places.Place.TheVariants.{Undecided, Pendi
 use Rattle.tenant_rules.specs.Arrivals.{Arrival, valid, trace_of}
 use Rattle.tenant_rules.specs.Own.{Own, Post, Turn, Answer, Report, Drain, Retire}
 use Rattle.tenant_rules.specs.Fate.{SettledData, WaitingData, are_sampled}
-use Rattle.tenant_rules.specs.Sender.{BatchData, ActiveData, SenderData, is_full, has_consumer, has_tickets, first_retry, due_by, under, without, replaced, retried, oldest, Choice, Retried, Oldest, NoBatch, choice_by, choice, sent_again, sent_first, FateData, Leaves, Stays, fate, in_flight, left_by, answered_by}
+use Rattle.tenant_rules.specs.Sender.{BatchData, ActiveData, SenderData, is_full, most_bytes, finds_no_room, has_consumer, has_tickets, first_retry, due_by, under, without, replaced, retried, oldest, Choice, Retried, Oldest, NoBatch, choice_by, choice, sent_again, sent_first, FateData, Leaves, Stays, fate, in_flight, left_by, answered_by}
 use Rattle.tenant_rules.specs.Batching.{all_sent}
 use Rattle.tenant_rules.specs.Intake.{Verdict, shutting_down, counter_limit, exhausted, accepted}
 use Rattle.tenant_rules.specs.Sending.{sender, ended_in_flight}
@@ -27,7 +27,7 @@ use Rattle.tenant_rules.specs.Events.{size_of}
 use Rattle.tenant_rules.specs.State.{State, state}
 use Rattle.tenant_rules.specs.Timers.{recount, queued, all_queued, grouped, flushed, settle, sample, decide_row, remembered, decide, first_due, next_timer, is_batch, one_run, ran, enough, advanced}
 use Rattle.tenant_rules.specs.Machine.{held, sampled_in, has_row, joined, evict_first, evict_waiting, evicted, opens, joins, cached_or_opens, late_or_opens, goes, counted_in, come, all_come, verdict, posted, post, turned_by, all_moved, all_decided, closed, drain, effective, acts, next}
-use Rattle.tenant_rules.specs.Limits.{IsWithinLimits, StepsStayWithin, FrontsStayWithin, PastsStayWithin}
+use Rattle.tenant_rules.specs.Limits.{longest, longest_active, IsWithinLimits, StepsStayWithin, FrontsStayWithin, PastsStayWithin}
 use Rattle.tenant_rules.proofs.Walked.{decide_row-is}
 use Rattle.tenant_rules.proofs.Steps.{IsNext, next_is, under_ticket, flying_under}
 use Rattle.tenant_rules.proofs.AnyStep.{step_follows}
@@ -37,17 +37,76 @@ record Within (n : ℕ) (s : State) : Type 0 where
   most_is : s.section.tail_sampling.num_traces ≡ n
   limits : IsWithinLimits s
 
+-- ---- the longest batch
+
+longest-push : (n : ℕ) (bs : List BatchData) (b : BatchData) → longest bs ≤ n → length b.payload ≤ n → longest (bs ++ b ∷ []) ≤ n
+longest-push n [] b all this = omega arith
+longest-push n (c ∷ bs) b all this =
+    let both : max (length c.payload) (longest bs) ≤ n = all in
+    let rest = longest-push n bs b (omega (arith, both)) this in
+    let here : max (length c.payload) (longest (bs ++ b ∷ [])) ≤ n = omega (arith, both, rest) in here
+
+longest_active-push : (n : ℕ) (xs : List ActiveData) (a : ActiveData) → longest_active xs ≤ n → length a.batch.payload ≤ n → longest_active (xs ++ a ∷ []) ≤ n
+longest_active-push n [] a all this = omega arith
+longest_active-push n (b ∷ xs) a all this =
+    let both : max (length b.batch.payload) (longest_active xs) ≤ n = all in
+    let rest = longest_active-push n xs a (omega (arith, both)) this in
+    let here : max (length b.batch.payload) (longest_active (xs ++ a ∷ [])) ≤ n = omega (arith, both, rest) in here
+
+longest_active-under : (t : ℕ) (a : ActiveData) (xs : List ActiveData) → under t xs ≡ Some a → length a.batch.payload ≤ longest_active xs
+longest_active-under t a [] is = absurd (cc)
+longest_active-under t a (b ∷ xs) is = by_test (b.ticket == t) is (λ rest. longest_active-under t a xs rest)
+  where
+    by_test : (f : Bool) → Path (Option ActiveData) (cond f (Some b) (under t xs)) (Some a) → (under t xs ≡ Some a → length a.batch.payload ≤ longest_active xs) →
+        length a.batch.payload ≤ max (length b.batch.payload) (longest_active xs)
+    by_test true here ih = let same : b ≡ a = cc in omega (arith, ap (λ (c : ActiveData). length c.batch.payload) same)
+    by_test false here ih = omega (arith, ih here)
+
+longest_active-without : (t : ℕ) (xs : List ActiveData) → longest_active (without t xs) ≤ longest_active xs
+longest_active-without t [] = omega arith
+longest_active-without t (b ∷ xs) = by_test (b.ticket == t) (longest_active-without t xs)
+  where
+    by_test : (f : Bool) → longest_active (without t xs) ≤ longest_active xs → longest_active (cond f xs (b ∷ without t xs)) ≤ max (length b.batch.payload) (longest_active xs)
+    by_test true ih = omega arith
+    by_test false ih = omega (arith, ih)
+
+longest_active-replaced : (n t : ℕ) (a : ActiveData) (xs : List ActiveData) → length a.batch.payload ≤ n → longest_active xs ≤ n → longest_active (replaced t a xs) ≤ n
+longest_active-replaced n t a [] this all = all
+longest_active-replaced n t a (b ∷ xs) this all =
+    let both : max (length b.batch.payload) (longest_active xs) ≤ n = all in
+    by_test (b.ticket == t) both (longest_active-replaced n t a xs this (omega (arith, both)))
+  where
+    by_test : (f : Bool) → max (length b.batch.payload) (longest_active xs) ≤ n → longest_active (replaced t a xs) ≤ n → longest_active (cond f (a ∷ xs) (b ∷ replaced t a xs)) ≤ n
+    by_test true both ih = omega (arith, this)
+    by_test false both ih = omega (arith, ih)
+
 -- ---- batches are offered
 
-queued_within : (n : ℕ) (b : BatchData) (s : State) → Within n s → Within n (queued b s)
-queued_within n b s k = by_test (is_full s.sender) refl
-  where
-    room : is_full s.sender ≡ false → length s.sender.queue < s.sender.sending.queue_size
-    room is = grind (arith, nat_tests, is)
+-- a batch that is taken is short, and comes to a queue that isn't full
+record FindsRoom (b : BatchData) (s : SenderData) : Type 0 where
+  few : length s.queue < s.sending.queue_size
+  short : length b.payload ≤ most_bytes
 
-    by_test : (full : Bool) → is_full s.sender ≡ full → Within n (cond full (recount Pending QueueFull b.spans s) (recount Pending Queued b.spans (record s { sender = cond full s.sender (record s.sender { queue = s.sender.queue ++ b ∷ [] }) })))
+neither : (a b : Bool) → (a || b) ≡ false → (a ≡ false) × (b ≡ false)
+neither true b is = absurd (cc)
+neither false b is = (refl, is)
+
+finds_room : (b : BatchData) (s : SenderData) → finds_no_room b s ≡ false → FindsRoom b s
+finds_room b s is =
+    let no = neither (is_full s) (nat_lt most_bytes (length b.payload)) is in
+    let full = no.0 in
+    let long = no.1 in
+    record { few = grind (arith, nat_tests, full); short = grind (arith, nat_tests, long) }
+
+queued_within : (n : ℕ) (b : BatchData) (s : State) → Within n s → Within n (queued b s)
+queued_within n b s k = by_test (finds_no_room b s.sender) refl
+  where
+    by_test : (full : Bool) → finds_no_room b s.sender ≡ full → Within n (cond full (recount Pending QueueFull b.spans s) (recount Pending Queued b.spans (record s { sender = cond full s.sender (record s.sender { queue = s.sender.queue ++ b ∷ [] }) })))
     by_test true is = omega arith
-    by_test false is = omega (arith, room is, length-append s.sender.queue (b ∷ []))
+    by_test false is =
+        let room = finds_room b s.sender is in
+        let few = room.few in
+        omega (arith, few, length-append s.sender.queue (b ∷ []), longest-push most_bytes s.sender.queue b k.limits.queue_short room.short)
 
 all_queued_within : (n : ℕ) (bs : List BatchData) (s : State) → Within n s → Within n (all_queued bs s)
 all_queued_within n [] s k = k
@@ -276,13 +335,18 @@ turned_by_within n m (Retried a) s is room k =
     let D = s.sender in
     let again = sent_again (D.handed_out + 1) a in
     let size : length (without a.ticket D.active ++ again ∷ []) ≡ length D.active = omega (arith, length-append (without a.ticket D.active) (again ∷ []), without_length a.ticket a D.active is) in
-    omega arith
+    let all = k.limits.active_short in
+    let short = longest_active-push most_bytes (without a.ticket D.active) again (omega (arith, all, longest_active-without a.ticket D.active)) (omega (arith, all, longest_active-under a.ticket a D.active is)) in
+    omega (arith, short)
 turned_by_within n m (Oldest b) s is room k =
     let D = s.sender in
     let first = sent_first D.retry m (D.handed_out + 1) b in
     let queue : length D.queue ≡ length (drop 1 D.queue) + 1 = omega (arith, ap length is) in
     let size : length (D.active ++ first ∷ []) ≡ length D.active + 1 = omega (arith, length-append D.active (first ∷ [])) in
-    omega arith
+    let both : longest D.queue ≡ max (length b.payload) (longest (drop 1 D.queue)) = ap longest is in
+    let all = k.limits.queue_short in
+    let short = longest_active-push most_bytes D.active first k.limits.active_short (omega (arith, all, both)) in
+    omega (arith, short)
 turned_by_within n m NoBatch s is room k = k
 
 -- ---- an answer
@@ -291,6 +355,11 @@ left_few : (a : ActiveData) (e : FateData) (xs : List ActiveData) → under a.ti
 left_few a (Leaves settled) xs is = omega (arith, without_length a.ticket a xs is)
 left_few a (Stays due retry) xs is = omega (arith, replaced_length a.ticket (record a { retry = retry; due = Some due }) xs)
 
+left_short : (a : ActiveData) (e : FateData) (xs : List ActiveData) → under a.ticket xs ≡ Some a → longest_active xs ≤ most_bytes → longest_active (left_by a e xs) ≤ most_bytes
+left_short a (Leaves settled) xs is all = omega (arith, all, longest_active-without a.ticket xs)
+left_short a (Stays due retry) xs is all =
+    longest_active-replaced most_bytes a.ticket (record a { retry = retry; due = Some due }) xs (omega (arith, all, longest_active-under a.ticket a xs is)) all
+
 settled_by_within : (n ticket m word : ℕ) (given : AnswerData) (o : Option ActiveData) (s : State) → in_flight ticket s.sender ≡ o → Within n s →
     Within n (record s { sender = answered_by m word given o s.sender; ledger = all_moved (ended_in_flight m word given o) s.ledger })
 settled_by_within n ticket m word given None s is k = k
@@ -298,7 +367,8 @@ settled_by_within n ticket m word given (Some a) s is k =
     let here : under ticket s.sender.active ≡ Some a = flying_under ticket a (under ticket s.sender.active) is in
     let own : under a.ticket s.sender.active ≡ Some a = ap (λ (t : ℕ). under t s.sender.active) (under_ticket ticket a s.sender.active here) ∙ here in
     let few : length (left_by a (fate m word given a) s.sender.active) ≤ length s.sender.active = left_few a (fate m word given a) s.sender.active own in
-    omega arith
+    let short = left_short a (fate m word given a) s.sender.active own k.limits.active_short in
+    omega (arith, short)
 
 -- ---- a step
 
@@ -319,9 +389,17 @@ next_within n step s some k =
 with_most : (s : State) → IsWithinLimits s → Within s.section.tail_sampling.num_traces s
 with_most s is = record { most_is = refl; limits = is }
 
--- an event of a trace's id leaves it so
+-- batches that are offered leave it so
+pub offers_stay_within : (bs : List BatchData) (s : State) → IsWithinLimits s → IsWithinLimits (all_queued bs s)
+offers_stay_within bs s is = (all_queued_within s.section.tail_sampling.num_traces bs s (with_most s is)).limits
+
+-- and so does an event of a trace's id
 pub remembered_stay_within : (sampled : Bool) (trace : List ℕ) (s : State) → IsWithinLimits s → IsWithinLimits (remembered sampled trace s)
 remembered_stay_within sampled trace s is = (remembered_within s.section.tail_sampling.num_traces sampled trace s (with_most s is)).limits
+
+-- and a drain at a moment
+pub drains_stay_within : (m : ℕ) (s : State) → IsWithinLimits s → IsWithinLimits (drain m s)
+drains_stay_within m s is = (drain_within s.section.tail_sampling.num_traces m s (with_most s is)).limits
 
 pub steps_stay_within : StepsStayWithin
 steps_stay_within step s some is = (next_within s.section.tail_sampling.num_traces step s some (with_most s is)).limits

@@ -11,7 +11,7 @@ use Rattle.tenant_rules.specs.Placement.{opened, spans_in_rows}
 use Rattle.tenant_rules.specs.Sender.{BatchData, SenderData}
 use Rattle.tenant_rules.specs.Batching.{rules_of, formed, waiting_rows}
 use Rattle.tenant_rules.specs.Intake.{IntakeData, verdict, intake_by, intake}
-use Rattle.tenant_rules.specs.Sending.{EndedData, newly_formed, all_offered, overflow, met_full_queue, sender, ended}
+use Rattle.tenant_rules.specs.Sending.{EndedData, newly_formed, all_offered, overflow, met_no_room, sender, ended}
 use Rattle.tenant_rules.specs.State.{State, state}
 use Rattle.tenant_rules.specs.Ready.{lesser}
 use Rattle.tenant_rules.specs.Timers.{enough, first_due, next_timer}
@@ -35,7 +35,7 @@ rests w i x d e D es sound le by =
 
 -- the state when these batches were offered
 abbrev offered_with : SectionData → IntakeData → ℕ → Option ℕ → SenderData → List EndedData → List BatchData → State
-offered_with w i e o D es new = state_with w i e o (all_offered new D) (map met_full_queue (overflow new D) ++ es)
+offered_with w i e o D es new = state_with w i e o (all_offered new D) (map met_no_room (overflow new D) ++ es)
 
 -- and no batch forms any more
 none_form : (w : SectionData) (i : IntakeData) (x d e : ℕ) (new : List BatchData) → d ≤ e → DrainedBy (Some x) d i.spans →

@@ -20,7 +20,7 @@ use Rattle.tenant_rules.specs.Rows.{Taken}
 use Rattle.tenant_rules.specs.Sender.{BatchData, ActiveData, SenderData, sizes, active_sizes, first_retry, due_by, has_consumer, has_tickets, under, retried, oldest, Choice, Retried, Oldest, NoBatch, choice_by, choice, without, replaced, sent_again, sent_first, handed_of, asked, FateData, Leaves, Stays, fate_next, fate_by, fate, settled_by, flying, in_flight, left_by, answered_by, answered}
 use Rattle.tenant_rules.specs.Batching.{rules_of, formed}
 use Rattle.tenant_rules.specs.Intake.{IntakeData, intake}
-use Rattle.tenant_rules.specs.Sending.{EndedData, formed_by, newly_formed, all_offered, overflow, sender, met_full_queue, ended_in_flight, ended_by, ended}
+use Rattle.tenant_rules.specs.Sending.{EndedData, formed_by, newly_formed, all_offered, overflow, sender, met_no_room, ended_in_flight, ended_by, ended}
 use Rattle.tenant_rules.specs.State.{State, ended_places, ledger_at, state}
 use Rattle.tenant_rules.specs.declared.reply.StepReply.TheVariants as replies
 use Rattle.drop_ledger.specs.Report.{report_text}
@@ -50,7 +50,7 @@ pub newly_is : (w : SectionData) (d e : ℕ) (o : Option ℕ) (A : List Taken) �
 newly_is w d e o A pos sound le by drain = ap (drop (length (formed w d o A))) (formed_meantime w d e o A pos sound le by drain) ∙ drop-append_seam (formed w d o A) (meantime w d e o A)
 
 reached : (w : SectionData) (i : IntakeData) (d e : ℕ) (o : Option ℕ) (D : SenderData) (es : List EndedData) → 0 < w.tail_sampling.num_traces → AreValidRules (rules_of w) → d ≤ e → TakenBy d i.spans → DrainedBy o d i.spans →
-    state_with w i e o (all_offered (meantime w d e o i.spans) D) (map met_full_queue (overflow (meantime w d e o i.spans) D) ++ es) ≡ advanced e (state_with w i d o D es)
+    state_with w i e o (all_offered (meantime w d e o i.spans) D) (map met_no_room (overflow (meantime w d e o i.spans) D) ++ es) ≡ advanced e (state_with w i d o D es)
 reached w i d e None D es pos sound le by drain = elapsed w i d e D es pos sound le by
 reached w i d e (Some x) D es pos sound le by drain = stays w i x d e D es sound drain.0 le drain.1
 
@@ -61,13 +61,13 @@ state_is w past = refl
 -- the batches that a step's timers make have been offered
 pub at_step : (w : SectionData) (past : List Own) (e : ℕ) (new : List BatchData) → 0 < w.tail_sampling.num_traces → AreValidRules (rules_of w) → clock past ≤ e →
     new ≡ drop (length (formed_by w past)) (formed w e (drained past) (intake w past).spans) →
-    state_with w (intake w past) e (drained past) (all_offered new (sender w past)) (map met_full_queue (overflow new (sender w past)) ++ ended w past) ≡ advanced e (state w past)
+    state_with w (intake w past) e (drained past) (all_offered new (sender w past)) (map met_no_room (overflow new (sender w past)) ++ ended w past) ≡ advanced e (state w past)
 at_step w past e new pos sound le is =
     let i = intake w past in
     let d = clock past in
     let o = drained past in
     let same : new ≡ meantime w d e o i.spans = is ∙ newly_is w d e o i.spans pos sound le (TakenBy-intake w past) (DrainedBy-intake w past) in
-    ap (λ (bs : List BatchData). state_with w i e o (all_offered bs (sender w past)) (map met_full_queue (overflow bs (sender w past)) ++ ended w past)) same
+    ap (λ (bs : List BatchData). state_with w i e o (all_offered bs (sender w past)) (map met_no_room (overflow bs (sender w past)) ++ ended w past)) same
     ∙ (reached w i d e o (sender w past) (ended w past) pos sound le (TakenBy-intake w past) (DrainedBy-intake w past)
     ∙ ap (advanced e) (sym (state_is w past)))
 
@@ -283,7 +283,7 @@ unfolding state next sender ended
 turn_goes_on w past now pos sound =
     let e = clock (Turn now ∷ past) in
     let new = newly_formed w (Turn now) past in
-    turned_is w (intake w past) e (drained past) (all_offered new (sender w past)) (map met_full_queue (overflow new (sender w past)) ++ ended w past)
+    turned_is w (intake w past) e (drained past) (all_offered new (sender w past)) (map met_no_room (overflow new (sender w past)) ++ ended w past)
     ∙ ap (turned e) (at_step w past e new pos sound (omega arith) refl)
 
 pub answer_goes_on : (w : SectionData) (past : List Own) (now ticket word : ℕ) (given : AnswerData) → 0 < w.tail_sampling.num_traces → AreValidRules (rules_of w) →
@@ -293,7 +293,7 @@ answer_goes_on w past now ticket word given pos sound =
     let step = Answer now ticket word given in
     let e = clock (step ∷ past) in
     let new = newly_formed w step past in
-    answered_is w (intake w past) e (drained past) (all_offered new (sender w past)) (map met_full_queue (overflow new (sender w past)) ++ ended w past) ticket word given
+    answered_is w (intake w past) e (drained past) (all_offered new (sender w past)) (map met_no_room (overflow new (sender w past)) ++ ended w past) ticket word given
     ∙ ap (settled ticket e word given) (at_step w past e new pos sound (omega arith) refl)
 
 -- ---- what is told

@@ -9,7 +9,7 @@ use Rattle.span_batcher.specs.Machine as machine
 use Rattle.span_batcher.specs.Timers.{is_due}
 use Rattle.tenant_rules.specs.Arrivals.{Arrival}
 use Rattle.tenant_rules.specs.Fate.{WaitingData, are_sampled}
-use Rattle.tenant_rules.specs.Sender.{BatchData, sizes, active_sizes, is_full}
+use Rattle.tenant_rules.specs.Sender.{BatchData, sizes, active_sizes, finds_no_room}
 use Rattle.tenant_rules.specs.Batching.{all_sent, spans_in}
 use Rattle.tenant_rules.specs.State.{State}
 use Rattle.tenant_rules.specs.Timers.{recount, queued, all_queued, grouped, flushed, settle, sample, decide_row, remembered, decide, first_due, next_timer, is_batch, one_run, ran, enough, advanced}
@@ -79,7 +79,7 @@ counted_from s t is goes = counted_of (fixed_of s) t (goes (kept_of s is)) is.so
 -- ---- batches are offered
 
 queued_kept : (f : Fixed) (left cut : ℕ) (b : BatchData) (s : State) → Kept f left (cut + b.spans) s → Kept f left cut (queued b s)
-queued_kept f left cut b s k = by_test (is_full s.sender)
+queued_kept f left cut b s k = by_test (finds_no_room b s.sender)
   where
     longer : sizes (s.sender.queue ++ b ∷ []) ≡ sizes s.sender.queue + b.spans
     longer = omega (arith, sizes-append s.sender.queue (b ∷ []), sizes_cons b [])

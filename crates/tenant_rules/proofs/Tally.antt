@@ -14,7 +14,7 @@ use Rattle.span_batcher.specs.Timers.{is_due, passed, after}
 use Rattle.span_batcher.proofs.Maps.{cuts-whole}
 use Rattle.tenant_rules.specs.Arrivals.{Arrival}
 use Rattle.tenant_rules.specs.Fate.{WaitingData, are_sampled}
-use Rattle.tenant_rules.specs.Sender.{BatchData, SenderData, sizes, active_sizes, is_full}
+use Rattle.tenant_rules.specs.Sender.{BatchData, SenderData, sizes, active_sizes, finds_no_room}
 use Rattle.tenant_rules.specs.Sending.{all_offered, overflow}
 use Rattle.tenant_rules.specs.Batching.{as_sent, all_sent, spans_in}
 use Rattle.tenant_rules.specs.State.{State}
@@ -60,7 +60,7 @@ cut_sizes r m xs =
 
 pub overflow-append : (xs ys : List BatchData) (s : SenderData) → overflow (xs ++ ys) s ≡ overflow xs s ++ overflow ys (all_offered xs s)
 overflow-append [] ys s = refl
-overflow-append (x ∷ xs) ys s = by_test (is_full s) (overflow-append xs ys s) (overflow-append xs ys (record s { queue = s.queue ++ x ∷ [] }))
+overflow-append (x ∷ xs) ys s = by_test (finds_no_room x s) (overflow-append xs ys s) (overflow-append xs ys (record s { queue = s.queue ++ x ∷ [] }))
   where
     by_test : (f : Bool) → overflow (xs ++ ys) s ≡ overflow xs s ++ overflow ys (all_offered xs s) →
         overflow (xs ++ ys) (record s { queue = s.queue ++ x ∷ [] }) ≡ overflow xs (record s { queue = s.queue ++ x ∷ [] }) ++ overflow ys (all_offered xs (record s { queue = s.queue ++ x ∷ [] })) →
@@ -74,7 +74,7 @@ overflow-append (x ∷ xs) ys s = by_test (is_full s) (overflow-append xs ys s) 
 pub queued_tally : (bs : List BatchData) (s : State) (l : LedgerData) (u k n f : ℕ) → s.ledger ≡ set_counts l u (k + sizes bs) (sizes s.sender.queue) (active_sizes s.sender.active) n f →
     (all_queued bs s).ledger ≡ set_counts l u k (sizes (all_offered bs s.sender).queue) (active_sizes (all_offered bs s.sender).active) n (f + sizes (overflow bs s.sender))
 queued_tally [] s l u k n f is = is ∙ set_same l u u (k + 0) k (sizes s.sender.queue) (sizes s.sender.queue) (active_sizes s.sender.active) (active_sizes s.sender.active) n n f (f + 0) refl (omega arith) refl refl refl (omega arith)
-queued_tally (b ∷ bs) s l u k n f is = by_test (is_full s.sender) (λ t f' is'. queued_tally bs t l u k n f' is')
+queued_tally (b ∷ bs) s l u k n f is = by_test (finds_no_room b s.sender) (λ t f' is'. queued_tally bs t l u k n f' is')
   where
     by_test : (g : Bool) → ((t : State) (f' : ℕ) → t.ledger ≡ set_counts l u (k + sizes bs) (sizes t.sender.queue) (active_sizes t.sender.active) n f' →
         (all_queued bs t).ledger ≡ set_counts l u k (sizes (all_offered bs t.sender).queue) (active_sizes (all_offered bs t.sender).active) n (f' + sizes (overflow bs t.sender))) →
@@ -156,7 +156,7 @@ decide_row_tally l n f m p r rs s pol waits is =
 
 -- ---- the walk
 
--- what meets a full queue of three lists of batches
+-- what finds no room of three lists of batches
 overflow_thrice : (xs ys zs : List (Batch Arrival)) (s : SenderData) →
     sizes (overflow (all_sent (xs ++ (ys ++ zs))) s) ≡ sizes (overflow (all_sent xs) s) + (sizes (overflow (all_sent ys) (all_offered (all_sent xs) s)) + sizes (overflow (all_sent zs) (all_offered (all_sent ys) (all_offered (all_sent xs) s))))
 overflow_thrice xs ys zs s =

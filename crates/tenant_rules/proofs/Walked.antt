@@ -14,7 +14,7 @@ use Rattle.span_batcher.specs.Timers.{is_due, passed, after, come, come_batches}
 use Rattle.tenant_rules.specs.Arrivals.{Arrival}
 use Rattle.tenant_rules.specs.Fate.{SettledData, WaitingData, are_sampled}
 use Rattle.decision_cache.specs.Caches.{BothData, noted_in}
-use Rattle.tenant_rules.specs.Sender.{BatchData, SenderData, offered}
+use Rattle.tenant_rules.specs.Sender.{BatchData, SenderData, admitted}
 use Rattle.tenant_rules.specs.Sending.{all_offered}
 use Rattle.tenant_rules.specs.Batching.{as_sent, all_sent}
 use Rattle.tenant_rules.specs.State.{State}
@@ -41,7 +41,7 @@ became_same s S S' W W' P P' D D' c L K K' a b d f g = cc (a, b, d, f, g)
 
 pub all_offered-append : (xs ys : List BatchData) (s : SenderData) → all_offered (xs ++ ys) s ≡ all_offered ys (all_offered xs s)
 all_offered-append [] ys s = refl
-all_offered-append (x ∷ xs) ys s = all_offered-append xs ys (offered x s)
+all_offered-append (x ∷ xs) ys s = all_offered-append xs ys (admitted x s)
 
 -- ---- the batch timer
 

@@ -1,24 +1,38 @@
 -- No state has more rows, ids of decided traces, batches that wait and active batches than its settings allow
 -- (`num_traces` and `decision_cache` of the Collector's tailsamplingprocessor, `queue_size` and `num_consumers` of its
--- exporterhelper).
-use Rattle.std.specs.Prelude.{◌≡◌, ◌<◌, ◌≤◌, ◌+◌, ℕ, true, false, min, List, length}
+-- exporterhelper), and no batch of it has more bytes than any may have.
+use Rattle.std.specs.Prelude.{◌≡◌, ◌<◌, ◌≤◌, ◌+◌, ℕ, true, false, min, max, List, [], ◌∷◌, length}
 use Rattle.tail_settings.specs.Section.{SectionData}
 use Rattle.span_batcher.specs.Batches.{AreValidRules}
 use Rattle.tenant_rules.specs.Own.{Own}
 use Rattle.tenant_rules.specs.Events.{size_of}
+use Rattle.tenant_rules.specs.Sender.{BatchData, ActiveData, most_bytes}
 use Rattle.tenant_rules.specs.Batching.{rules_of}
 use Rattle.tenant_rules.specs.State.{State, state}
 use Rattle.tenant_rules.specs.Timers.{IsFront}
 use Rattle.tenant_rules.specs.Machine.{next}
 
+-- how many bytes the longest of these batches has
+abbrev pub longest : List BatchData → ℕ
+longest [] = 0
+longest (batch ∷ batches) = max (length batch.payload) (longest batches)
+
+-- how many the longest of these has
+abbrev pub longest_active : List ActiveData → ℕ
+longest_active [] = 0
+longest_active (a ∷ rest) = max (length a.batch.payload) (longest_active rest)
+
 -- as many rows are present as have opened, or as may be; sender and caches go by the section's settings; no more
--- batches wait than the queue takes, no more are active than there are consumers, and no cache has more ids than it may
+-- batches wait than the queue takes, no more are active than there are consumers, none of either has more bytes than
+-- any may have, and no cache has more ids than it may
 pub record IsWithinLimits (s : State) : Type 0 where
   pub rows_are : length s.settled + length s.waiting ≡ min s.opened s.section.tail_sampling.num_traces
   pub queue_size_is : s.sender.sending.queue_size ≡ s.section.sending_queue.queue_size
   pub num_consumers_is : s.sender.sending.num_consumers ≡ s.section.sending_queue.num_consumers
   pub queue_fits : length s.sender.queue ≤ s.section.sending_queue.queue_size
   pub active_fit : length s.sender.active ≤ s.section.sending_queue.num_consumers
+  pub queue_short : longest s.sender.queue ≤ most_bytes
+  pub active_short : longest_active s.sender.active ≤ most_bytes
   pub sampled_size_is : s.caches.sampled.size ≡ size_of s.section true
   pub other_size_is : s.caches.other.size ≡ size_of s.section false
   pub sampled_fit : length s.caches.sampled.ids ≤ s.caches.sampled.size

@@ -11,7 +11,7 @@ use Rattle.send_queue.specs.declared.settled.Settled.TheVariants.{Taken, Waits, 
 use Rattle.tenant_rules.specs.Own.{Own, Post, Turn, Answer, Report, Drain, Retire, clock, drained}
 use Rattle.tenant_rules.specs.Batching.{formed}
 use Rattle.tenant_rules.specs.Intake.{intake}
-use Rattle.tenant_rules.specs.Sender.{BatchData, ActiveData, SenderData, no_batches, is_full, offered, asked, fate, settled_by, in_flight, answered}
+use Rattle.tenant_rules.specs.Sender.{BatchData, ActiveData, SenderData, no_batches, finds_no_room, admitted, asked, fate, settled_by, in_flight, answered}
 
 -- all batches that formed in a past, oldest first
 abbrev pub formed_by : SectionData → List Own → List BatchData
@@ -24,13 +24,13 @@ newly_formed section step past = drop (length (formed_by section past)) (formed_
 -- batches are offered, one after the other
 abbrev pub all_offered : List BatchData → SenderData → SenderData
 all_offered [] s = s
-all_offered (batch ∷ batches) s = all_offered batches (offered batch s)
+all_offered (batch ∷ batches) s = all_offered batches (admitted batch s)
 
--- those that meet a full queue
+-- those that find no room
 abbrev pub overflow : List BatchData → SenderData → List BatchData
 overflow [] s = []
 overflow (batch ∷ batches) s =
-    if is_full s then batch ∷ overflow batches s else overflow batches (offered batch s)
+    if finds_no_room batch s then batch ∷ overflow batches s else overflow batches (admitted batch s)
 
 -- what a step does to the sender at a moment
 abbrev pub acted : ℕ → Own → SenderData → SenderData
@@ -58,9 +58,9 @@ pub record EndedData : Type 0 where
   pub place : Place
   pub spans : ℕ
 
--- a batch that met a full queue
-abbrev pub met_full_queue : BatchData → EndedData
-met_full_queue batch = record { place = QueueFull; spans = batch.spans }
+-- a batch that found no room
+abbrev pub met_no_room : BatchData → EndedData
+met_no_room batch = record { place = QueueFull; spans = batch.spans }
 
 -- where the spans of a batch ended by what became of it
 abbrev pub ended_by : Settled → List EndedData
@@ -89,4 +89,4 @@ unfoldable pub ended : SectionData → List Own → List EndedData
 ended section [] = []
 ended section (step ∷ past) =
     ended_at (clock (step ∷ past)) step (before_acting section step past (sender section past))
-    ++ (map met_full_queue (overflow (newly_formed section step past) (sender section past)) ++ ended section past)
+    ++ (map met_no_room (overflow (newly_formed section step past) (sender section past)) ++ ended section past)

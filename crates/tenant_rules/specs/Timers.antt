@@ -10,7 +10,7 @@ use Rattle.span_batcher.specs.Machine.{cuts, added, fired}
 use Rattle.span_batcher.specs.Timers.{is_due}
 use Rattle.tenant_rules.specs.Arrivals.{Arrival}
 use Rattle.tenant_rules.specs.Fate.{WaitingData, are_sampled}
-use Rattle.tenant_rules.specs.Sender.{BatchData, is_full, offered}
+use Rattle.tenant_rules.specs.Sender.{BatchData, finds_no_room, admitted}
 use Rattle.decision_cache.specs.Caches.{noted_in}
 use Rattle.tenant_rules.specs.Batching.{all_sent}
 use Rattle.tenant_rules.specs.Ready.{lesser}
@@ -23,8 +23,8 @@ recount from to n s = record s { ledger = moved from to n s.ledger }
 -- a batch of pending spans is offered to the sender
 abbrev pub queued : BatchData → State → State
 queued batch s =
-    if is_full s.sender then recount Pending QueueFull batch.spans s
-    else recount Pending Queued batch.spans (record s { sender = offered batch s.sender })
+    if finds_no_room batch s.sender then recount Pending QueueFull batch.spans s
+    else recount Pending Queued batch.spans (record s { sender = admitted batch s.sender })
 
 -- several batches, one after the other
 abbrev pub all_queued : List BatchData → State → State

@@ -92,9 +92,9 @@ pub fn counted_once()
     ensures pasts { PastsCount }
 {}
 
-/// No state has more rows, ids of decided traces, batches that wait and active batches than its settings allow,
-/// whichever step came last, and where some first timers have run, as after refused memory: a law over the definitions
-/// and the machine.
+/// No state has more rows, ids of decided traces, batches that wait and active batches than its settings allow, nor a
+/// batch that waits or is active of more than 32 MiB, whichever step came last, and where some first timers have run,
+/// as after refused memory: a law over the definitions and the machine.
 pub fn limits_hold()
     ensures steps { StepsStayWithin }
     ensures fronts { FrontsStayWithin }

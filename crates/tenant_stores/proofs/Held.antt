@@ -245,3 +245,16 @@ module _ (a b c d : TextRequest) (keys : TextKeys) (texts : ℕ → Option Count
     known_by c keys.scope texts is_c (λ t some. there t (omega (arith, some, four_parts keys t))),
     known_by d keys.scope_schema_url texts is_d (λ t some. there t (omega (arith, some, four_parts keys t))),
   )
+
+-- the first two are so, and the last two come with their bytes
+module _ (a b c d : TextRequest) (keys : TextKeys) (texts : ℕ → Option CountedText) (is_a : a ≡ again_of keys.resource) (is_b : b ≡ again_of keys.resource_schema_url) where
+  pub origin_scoped : (scope scope_schema_url : Option (List ℕ)) → wanted_text c texts ≡ scope → wanted_text d texts ≡ scope_schema_url
+      → origin_of (wanted_text a texts) (wanted_text b texts) (wanted_text c texts) (wanted_text d texts)
+      ≡ origin_of (keyed.text_at (text_at texts) keys.resource) (keyed.text_at (text_at texts) keys.resource_schema_url) scope scope_schema_url
+  origin_scoped scope scope_schema_url is_c is_d = cc (text_by a keys.resource texts is_a, text_by b keys.resource_schema_url texts is_b, is_c, is_d)
+
+  pub outer_known : ((t : ℕ) → 0 < count t (text_keys keys) → 0 < uses_of (texts t)) → IsKnown a texts × IsKnown b texts
+  outer_known there = (
+    known_by a keys.resource texts is_a (λ t some. there t (omega (arith, some, four_parts keys t))),
+    known_by b keys.resource_schema_url texts is_b (λ t some. there t (omega (arith, some, four_parts keys t))),
+  )

@@ -58,6 +58,15 @@ abbrev pub origin_copied : Option (Bor (List ℕ)) → Option (Bor (List ℕ)) �
 origin_copied resource resource_schema_url scope scope_schema_url = origin_of (option_copied resource)
     (option_copied resource_schema_url) (option_copied scope) (option_copied scope_schema_url)
 
+-- an origin with these texts of a scope in the place of its own, where they are
+abbrev pub with_scope : Origin → Option (Bor (List ℕ)) → Option (Bor (List ℕ)) → Origin
+with_scope origin scope scope_schema_url = record {
+  resource = origin.resource;
+  resource_schema_url = origin.resource_schema_url;
+  scope = option_copied scope;
+  scope_schema_url = bytes_of (option_copied scope_schema_url);
+}
+
 -- the origin whose texts a part has at these keys
 abbrev pub origin_in : {N : Type 0} → Part N → TextKeys → Origin
 origin_in p keys = keyed.origin_at (text_at p.texts) keys

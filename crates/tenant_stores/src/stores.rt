@@ -16,7 +16,7 @@ ghost use Rattle.tenant_stores.specs.Promises.{OthersUnchanged, TextsStay, Where
 ghost use Rattle.tenant_stores.specs.Promises.{WhereWaits, WhereOpens, WhereDecides, WhereSweeps, WhereLeave};
 ghost use Rattle.tenant_stores.specs.Promises.{ShowsSame, ShowsSameInHand, ShowsSameHeld, ShowsJoined, ShowsOpened};
 ghost use Rattle.tenant_stores.specs.Promises.{ShowsLate, ShowsKept, ShowsDropped, ShowsLeft, ShowsSwept};
-ghost use Rattle.tenant_stores.specs.HeldTexts.{origin_copied, origin_in};
+ghost use Rattle.tenant_stores.specs.HeldTexts.{origin_copied, origin_in, with_scope};
 
 use crate::texts::{hold_four, release_all, wanted_again, wanted_new};
 use crate::undo::{Joining, Opening, UndoEntry};
@@ -151,6 +151,52 @@ impl<N: Drop> Stores<N> {
         let resource_schema_url = wanted_again(keys.resource_schema_url);
         let scope = wanted_again(keys.scope);
         let scope_schema_url = wanted_again(keys.scope_schema_url);
+        let again = hold_four(
+            &mut self.texts,
+            tenant,
+            resource,
+            resource_schema_url,
+            scope,
+            scope_schema_url,
+        )?;
+        Ok(again)
+    }
+
+    /// One use more of the resource at these keys, which are in hand, and of the URL of its schema, and of a scope's
+    /// texts, for a span to come, or of none. The answer is the keys of these uses.
+    pub fn hold_scope(
+        &mut self,
+        tenant: u32,
+        keys: TextKeys,
+        scope: Option<&SharedBytes>,
+        scope_schema_url: Option<&SharedBytes>,
+    ) -> Result<TextKeys, AllocError>
+        ensures uses_added { IfOk result
+            (λ again. WhereInHand keys (part tenant self.old)
+            (λ n pending held. HoldsAll (text_keys again) (part tenant self.old)
+            (part tenant self.new))) }
+        ensures texts { IfOk result (λ again. WhereInHand keys (part tenant self.old)
+            (λ n pending held. origin_in (part tenant self.new) again ≡ with_scope
+            (origin_in (part tenant self.old) keys) scope.entry scope_schema_url.entry)) }
+        ensures store_invariant { IfOk result
+            (λ again. WhereInHand keys (part tenant self.old)
+            (λ n pending held. StoreInvariant n pending (text_keys again ++ held)
+            (part tenant self.new))) }
+        ensures shows { OnOk result (ShowsSameInHand keys (part tenant self.old)
+            (part tenant self.new)) }
+        ensures stay { OnOk result (WhereInHand keys (part tenant self.old)
+            (λ n pending held. TextsStay held (part tenant self.old) (part tenant self.new))) }
+
+        // Other tenants' parts stay as they were, and where memory is refused this tenant's too.
+        ensures others_unchanged { OthersUnchanged tenant self.old self.new }
+        ensures on_refusal { OnErr result
+            (WhereInHand keys (part tenant self.old)
+            (λ n pending held. part tenant self.new ≡ part tenant self.old)) }
+    {
+        let resource = wanted_again(keys.resource);
+        let resource_schema_url = wanted_again(keys.resource_schema_url);
+        let scope = wanted_new(scope);
+        let scope_schema_url = wanted_new(scope_schema_url);
         let again = hold_four(
             &mut self.texts,
             tenant,

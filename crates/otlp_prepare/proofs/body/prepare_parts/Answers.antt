@@ -14,7 +14,7 @@ of-requires-clause-ready g c =
     let shared : arc_slice_items c.in_ok-shared.shared ≡ arc_slice_items c.args.section.now.tail_sampling.policies = c.in_ok-shared.ensures.cases in
     let policies : c.of-policies.result ≡ map policy_view (arc_slice_items c.in_ok-shared.shared) = c.of-policies.ensures ∙ ap (λ (ps : List PolicySpec). map policy_view ps) (c.as_slice.ensures.value ∙ sym shared) in
     subst (λ (ps : List PolicyData). AreReady ps c.in_ok-found.found.origins.items c.in_ok-spans.spans.items) policies
-    (are_ready c.of-policies.result c.in_ok-found.found.origins.items c.in_ok-found.found.parts.items c.in_ok-spans.spans.items c.in_ok-spans.ensures c.in_ok-found.ensures.found)
+    (are_ready c.of-policies.result c.in_ok-found.found.origins.items c.in_ok-found.found.parts.items c.in_ok-spans.spans.items c.in_ok-spans.ensures c.in_ok-found.ensures.grouped c.in_ok-found.ensures.found)
 
 pub returns : goal.returns
 returns g c = λ v typed nested same.

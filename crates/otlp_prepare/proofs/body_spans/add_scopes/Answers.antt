@@ -12,6 +12,7 @@ loop-scope-init c =
     let whole = c.into_iter-scope-iterator.ensures.into_iter_gives in
     record {
       adding = λ policies around found. none_yet policies _ _ _ _ (ap (map scope_parts_view) whole.0) found;
+      grouped = λ group. group;
       read = subst (λ (xs : List ScopeTexts). AllByRecursion IsScopeRead xs) (sym (ap (map scope_parts_view) whole.0)) c.requires.read;
       len = omega (arith, ap length whole.0, whole.1, c.args.scopes.ok.0);
     }
@@ -24,7 +25,8 @@ loop-scope-preserved c =
     record {
       adding = λ policies around found.
           let before = at.invariant.adding policies around found in
-          one_more policies _ _ _ _ _ _ _ _ _ _ next before (c.in_ok-add_scope.ensures policies around before.found);
+          one_more policies _ _ _ _ _ _ _ _ _ _ next before (c.in_ok-add_scope.ensures.adds policies around before.found);
+      grouped = λ group. c.in_ok-add_scope.ensures.grouped (at.invariant.grouped group);
       read = (subst (λ (xs : List ScopeTexts). AllByRecursion IsScopeRead xs) next at.invariant.read).1;
       len =
           let was = at.invariant.len in
@@ -33,7 +35,10 @@ loop-scope-preserved c =
           omega arith;
     }
 
-pub returns : goal.returns
-returns c = λ policies around found.
+pub returns-clause-adds : goal.returns-clause-adds
+returns-clause-adds c = λ policies around found.
     let none = c.in-None.ensures.steps in
     all_now scope_parts_view policies _ _ _ _ _ _ (c.loop-scope.invariant.len ∙ none.0) (c.loop-scope.invariant.adding policies around found)
+
+pub returns-clause-grouped : goal.returns-clause-grouped
+returns-clause-grouped c = c.loop-scope.invariant.grouped

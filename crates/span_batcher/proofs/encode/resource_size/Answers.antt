@@ -15,6 +15,6 @@ returns c =
     let x : SpanTexts = span_in texts c.args.first.now in
     let inner = flat_map scope_spans_field (runs same_scope (placed texts blocks)) in
     let first : c.embedded_size.result ≡ capped (length (embedded 1 x.origin.resource)) = c.embedded_size.ensures ∙ ap (λ t. capped (length (embedded 1 t))) c.resource_of.ensures in
-    let second : c.scopes_size.result ≡ capped (length inner) = c.scopes_size.ensures ∙ ap (λ (bs : List ℕ). capped (length bs)) (scopes_placed texts blocks) in
+    let second : c.runs_size.result ≡ capped (length inner) = c.runs_size.ensures ∙ ap (λ (bs : List ℕ). capped (length bs)) (scopes_placed texts blocks) in
     let third : c.url_size.result ≡ capped (length (some_bytes 3 x.origin.resource_schema_url)) = c.url_size.ensures ∙ ap (λ (bs : List ℕ). capped (length (some_bytes 3 bs))) c.resource_url_of.ensures in
     three_parts _ _ _ _ _ (embedded 1 x.origin.resource) inner (some_bytes 3 x.origin.resource_schema_url) first second third c.saturating_add.ensures c.saturating_add-2.ensures

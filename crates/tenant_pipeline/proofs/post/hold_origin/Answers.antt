@@ -1,5 +1,5 @@
 use Rattle.std.proofs.Common.{◌≡◌, ◌∙◌, ◌++◌, sym, subst}
-use Rattle.span_pool.specs.Stored.{OwnedKeys, bytes_of, origin_at}
+use Rattle.span_pool.specs.Stored.{OwnedKeys, origin_at}
 use Rattle.tenant_stores.specs.Part.{part}
 use Rattle.tenant_stores.specs.Invariant.{StoreInvariant}
 use Rattle.tenant_stores.specs.Trail.{HoldsAll}
@@ -9,33 +9,28 @@ use Rattle.tenant_pipeline.proofs.Placing.{given_back}
 use Rattle.tenant_pipeline.proofs.post.hold_origin.Goals as goal
 
 pub returns-in-Ok-clause-uses_added : goal.returns-in-Ok-clause-uses_added
-returns-in-Ok-clause-uses_added c = λ n pending held sound.
+returns-in-Ok-clause-uses_added c = λ n pending held among sound.
     let tenant = c.args.tenant in
-    subst (λ (k : OwnedKeys). HoldsAll (text_keys k.keys) (part tenant c.args.stores.now) (part tenant c.hold_all.new.self)) (sym c.in-Ok.ensures)
-    (c.in_ok-keys.ensures.uses_added n pending held sound)
+    subst (λ (k : OwnedKeys). HoldsAll (text_keys k.keys) (part tenant c.args.stores.now) (part tenant c.hold_texts.new.stores)) (sym c.in-Ok.ensures)
+    (c.in_ok-keys.ensures.uses_added n pending held among sound)
 
 pub returns-in-Ok-clause-store_invariant : goal.returns-in-Ok-clause-store_invariant
-returns-in-Ok-clause-store_invariant c = λ n pending held sound.
+returns-in-Ok-clause-store_invariant c = λ n pending held among sound.
     let tenant = c.args.tenant in
-    subst (λ (k : OwnedKeys). StoreInvariant n pending (text_keys k.keys ++ held) (part tenant c.hold_all.new.self)) (sym c.in-Ok.ensures)
-    (c.in_ok-keys.ensures.store_invariant n pending held sound)
+    subst (λ (k : OwnedKeys). StoreInvariant n pending (text_keys k.keys ++ held) (part tenant c.hold_texts.new.stores)) (sym c.in-Ok.ensures)
+    (c.in_ok-keys.ensures.store_invariant n pending held among sound)
 
 pub returns-in-Ok-clause-origin : goal.returns-in-Ok-clause-origin
-returns-in-Ok-clause-origin c = λ n pending held sound.
-    let q = part c.args.tenant c.hold_all.new.self in
+returns-in-Ok-clause-origin c = λ n pending held among sound.
+    let q = part c.args.tenant c.hold_texts.new.stores in
     subst (λ (k : OwnedKeys). origin_at (text_at q.texts) k.keys ≡ origin_view c.args.origin.now) (sym c.in-Ok.ensures)
-    (c.in_ok-keys.ensures.texts n pending held sound ∙ (λ i. record {
-      resource = c.resource.ensures.value i;
-      resource_schema_url = bytes_of (c.resource_schema_url.ensures.value i);
-      scope = c.scope.ensures.value i;
-      scope_schema_url = bytes_of (c.scope_schema_url.ensures.value i);
-    }))
+    (c.in_ok-keys.ensures.origin n pending held among sound)
 
 pub returns-in-Err-clause-others_unchanged : goal.returns-in-Err-clause-others_unchanged
 returns-in-Err-clause-others_unchanged c = λ other ne. c.release_all.ensures.others_unchanged other ne ∙ c.in_ok-keys.ensures.others_unchanged other ne
 
 pub returns-in-Err-clause-on_refusal : goal.returns-in-Err-clause-on_refusal
-returns-in-Err-clause-on_refusal c = λ n pending held sound.
+returns-in-Err-clause-on_refusal c = λ n pending held among sound.
     let tenant = c.args.tenant in
-    given_back (text_keys c.in_ok-keys.keys) (part tenant c.args.stores.now) (part tenant c.hold_all.new.self) (part tenant c.release_all.new.self)
-    (c.in_ok-keys.ensures.uses_added n pending held sound) c.release_all.ensures.uses_removed
+    given_back (text_keys c.in_ok-keys.keys) (part tenant c.args.stores.now) (part tenant c.hold_texts.new.stores) (part tenant c.release_all.new.self)
+    (c.in_ok-keys.ensures.uses_added n pending held among sound) c.release_all.ensures.uses_removed

@@ -11,9 +11,11 @@ pub returns-in_err-place-clause-written : goal.returns-in_err-place-clause-writt
 returns-in_err-place-clause-written c = λ start first written.
     let own = c.args.self.now in
     let refused = c.in_err-place.ensures in
-    let posting = c.requires.next.posting in
+    let p = part_in own c.args.stores.now in
+    let pending = c.args.journal.now.undo.gone.items ++ own.batcher.spans in
+    let sound = subst (λ (ks : List ℕ). StoreInvariant (counts_in own) pending ks p) (sym (append-nil (held_keys c.args.held.now))) c.requires.next.posting.holds.sound in
     written_kept c.args.held.now c.hold.new.self c.args.journal.now start own first (part_in own c.args.stores.now) (part_in own c.hold.new.stores) refused.on_refusal
-    (refused.part_on_refusal (counts_in own) (c.args.journal.now.undo.gone.items ++ own.batcher.spans) (held_keys c.args.held.now) posting.holds.sound) written
+    (refused.part_on_refusal (counts_in own) pending [] sound) written
 
 pub admit-requires-clause-coming : goal.admit-requires-clause-coming
 admit-requires-clause-coming c =

@@ -1,9 +1,8 @@
-use Rattle.std.proofs.Common.{◌≡◌, ◌<◌, ◌+◌, ◌∙◌, ◌++◌, List, length, map, sym, ap, subst, arith, ℕ, Bool, false, leb, Result, Ok, Err}
+use Rattle.std.proofs.Common.{◌≡◌, ◌<◌, ◌+◌, ◌∙◌, ◌++◌, List, length, length-append, sym, ap, subst, arith, ℕ, Bool, false, leb, Result, Ok, Err}
 use Rattle.std.specs.Result.{OnOk, OnErr}
 use Rattle.std.proofs.lemmas.Bool.Decides.{nat_tests}
 use Rattle.std.proofs.lemmas.Result.{on_ok_weaker}
 use Rattle.send_queue.specs.Sender.{BatchData}
-use Rattle.send_queue.specs.View.{batch_view}
 use Rattle.span_batcher.specs.Batches.{Batch}
 use Rattle.span_batcher.specs.State as batcher
 use Rattle.span_batcher.specs.Machine.{PlannedData, threshold, cuts, uncut, added, taken}
@@ -11,16 +10,15 @@ use Rattle.span_batcher.specs.Maps.{spans_of}
 use Rattle.tenant_stores.specs.Counts.{count}
 use Rattle.tenant_stores.proofs.Lists.{count-append}
 use Rattle.span_batcher.proofs.Maps.{cuts-whole}
-use Rattle.tenant_rules.specs.Batching.{all_sent}
-use Rattle.tenant_rules.specs.Sender.{sizes}
 use Rattle.tenant_pipeline.specs.declared.pipeline.Pipeline.{Pipeline}
 use Rattle.tenant_pipeline.specs.declared.undo.Undo.{Undo}
 use Rattle.tenant_pipeline.specs.Undo.{TakesBack}
-use Rattle.tenant_pipeline.specs.StateIn.{part_in}
-use Rattle.tenant_pipeline.specs.Outbox.{batch_at, Groups}
-use Rattle.tenant_pipeline.proofs.Grouping.{sent_sizes, added_spans}
+use Rattle.tenant_pipeline.specs.StateIn.{part_in, unsent_at}
+use Rattle.tenant_pipeline.specs.Outbox.{AreThere, Groups}
+use Rattle.tenant_pipeline.proofs.Grouping.{added_spans}
 use Rattle.tenant_pipeline.proofs.Grouped.{groups_by, undo_by, groups_appended, appended_spans, undo_appended}
 use Rattle.tenant_pipeline.proofs.Ranges.{own_sound, queue_short}
+use Rattle.tenant_pipeline.proofs.Spans.{there-cuts}
 use Rattle.tenant_pipeline.proofs.pipeline.Pipeline.group.Goals as goal
 
 -- ---- where no batch is filled
@@ -80,16 +78,25 @@ returns-in-Ok-clause-offers c =
     let count = c.in-Ok.ensures.took.count in
     omega (arith, few, noted, count)
 
+pub offer_group-requires-clause-there : goal.offer_group-requires-clause-there
+offer_group-requires-clause-there c =
+    let own = c.args.self.now in
+    let p = part_in own c.args.stores.now in
+    let bs = c.batches-2.ensures ∙ c.in_ok-planned.ensures.batches in
+    subst (λ (b : List (Batch ℕ)). AreThere p (spans_of b)) (sym bs) (there-cuts p own.batcher.rules c.args.moment (own.batcher.spans ++ c.args.keys.now) c.requires.there)
+
 pub offer_group-requires-clause-pending : goal.offer_group-requires-clause-pending
 offer_group-requires-clause-pending c =
     let own = c.args.self.now in
-    let p = part_in own c.args.stores.now in
-    let made = c.in_ok-planned.ensures in
-    let sent = made.sent ∙ ap (λ (bs : List (Batch ℕ)). all_sent (map (batch_at p) bs)) made.batches in
-    let many = ap sizes sent in
-    let whole = sent_sizes p own.batcher c.args.moment c.args.keys.now c.requires.there in
+    let r = own.batcher.rules in
+    let all = own.batcher.spans ++ c.args.keys.now in
+    let bs = c.batches-2.ensures ∙ c.in_ok-planned.ensures.batches in
+    let size = ap (λ (b : List (Batch ℕ)). length (spans_of b)) bs in
+    let whole = ap length (cuts-whole r c.args.moment all) in
+    let parts = length-append (spans_of (cuts r c.args.moment all)) (uncut r all) in
+    let both = length-append own.batcher.spans c.args.keys.now in
     let pending = c.requires.pending in
-    omega (arith, many, whole, pending)
+    omega (arith, size, whole, parts, both, pending)
 
 pub returns-in-Ok-clause-on_success : goal.returns-in-Ok-clause-on_success
 returns-in-Ok-clause-on_success c =
@@ -97,9 +104,9 @@ returns-in-Ok-clause-on_success c =
     let mid = c.offer_group.new.self in
     let p = part_in own c.args.stores.now in
     let made = c.in_ok-planned.ensures in
-    let planned : PlannedData ℕ = c.in_ok-planned.field-0.planned in
-    let sent : List BatchData = map batch_view c.in_ok-planned.field-0.sent.items in
-    let sent_are = made.sent ∙ ap (λ (bs : List (Batch ℕ)). all_sent (map (batch_at p) bs)) made.batches in
+    let planned : PlannedData ℕ = c.in_ok-planned.planned in
+    let sent : List BatchData = unsent_at p c.batches-2.result.now in
+    let sent_are = ap (λ (bs : List (Batch ℕ)). unsent_at p bs) (c.batches-2.ensures ∙ made.batches) in
     let kept : mid.batcher ≡ own.batcher = ap (λ (x : Pipeline). x.batcher) c.in-Ok.ensures.on_success.same in
     let is : c.exchange.new.self ≡ added c.args.moment c.args.keys.now own.batcher = c.exchange.ensures.pending ∙ (ap (taken planned) kept ∙ made.pending) in
     subst (λ (b : batcher.State ℕ). let new : Pipeline = record mid { batcher = b } in Groups c.args.moment c.args.keys.now p own new) (sym is)
@@ -126,16 +133,16 @@ returns-in-Ok-clause-gone c = λ key.
     let r = own.batcher.rules in
     let all = own.batcher.spans ++ c.args.keys.now in
     let made = c.in_ok-planned.ensures in
-    let planned : PlannedData ℕ = c.in_ok-planned.field-0.planned in
+    let planned : PlannedData ℕ = c.in_ok-planned.planned in
     let kept : mid.batcher ≡ own.batcher = ap (λ (x : Pipeline). x.batcher) c.in-Ok.ensures.on_success.same in
     let is : c.exchange.new.self ≡ added c.args.moment c.args.keys.now own.batcher = c.exchange.ensures.pending ∙ (ap (taken planned) kept ∙ made.pending) in
     let left = ap (count key) (ap (λ (b : batcher.State ℕ). b.spans) is ∙ added_spans c.args.moment c.args.keys.now own.batcher) in
-    let cut = ap (count key) (made.gone ∙ ap spans_of made.batches) in
+    let cut = ap (count key) (c.in_ok-gone.ensures ∙ ap spans_of (c.batches.ensures ∙ made.batches)) in
     let whole = ap (count key) (cuts-whole r c.args.moment all) in
     let parts = count-append key (spans_of (cuts r c.args.moment all)) (uncut r all) in
     let both = count-append key own.batcher.spans c.args.keys.now in
     let gone = ap (count key) c.in_ok-append.ensures.items in
-    let more = count-append key c.args.undo.now.gone.items c.in_ok-planned.field-0.gone.items in
+    let more = count-append key c.args.undo.now.gone.items c.in_ok-gone.gone.items in
     let noted = ap (λ (u : Undo). count key u.gone.items) c.note.ensures in
     omega (arith, left, cut, whole, parts, both, gone, more, noted)
 
@@ -144,7 +151,7 @@ returns-in-Ok-clause-back c = λ start back.
     let own = c.args.self.now in
     let mid = c.offer_group.new.self in
     let made = c.in_ok-planned.ensures in
-    let planned : PlannedData ℕ = c.in_ok-planned.field-0.planned in
+    let planned : PlannedData ℕ = c.in_ok-planned.planned in
     let kept : mid.batcher ≡ own.batcher = ap (λ (x : Pipeline). x.batcher) c.in-Ok.ensures.on_success.same in
     let is : c.exchange.new.self ≡ added c.args.moment c.args.keys.now own.batcher = c.exchange.ensures.pending ∙ (ap (taken planned) kept ∙ made.pending) in
     let former = c.exchange.ensures.former in

@@ -16,7 +16,7 @@ use Rattle.tenant_pipeline.specs.declared.pipeline.Pipeline.{Pipeline}
 use Rattle.tenant_pipeline.specs.declared.undo.Undo.{Undo}
 use Rattle.tenant_pipeline.specs.Undo.{TakesBack}
 use Rattle.tenant_pipeline.specs.Outbox.{AreThere, batch_at, Groups, GroupsUnsent}
-use Rattle.tenant_pipeline.specs.StateIn.{written_with}
+use Rattle.tenant_pipeline.specs.StateIn.{part_in, written_with}
 use Rattle.tenant_pipeline.proofs.Adding.{adds_sends, adds_left}
 use Rattle.tenant_pipeline.proofs.Draining.{back_same}
 use Rattle.tenant_pipeline.proofs.Grouping.{added_spans}
@@ -44,8 +44,9 @@ pub returns-then-not-fills-clause-on_success : goal.returns-then-not-fills-claus
 returns-then-not-fills-clause-on_success c =
     let own = c.args.self.now in
     let us = c.args.leaving.now.unsent in
-    on_ok_weaker c.append_group.result (λ is. subst (λ (o : Pipeline). GroupsUnsent c.args.moment c.args.keys.now us us own o) (sym is)
-    (λ p there room. groups_appended (written_with us p own) p c.args.moment c.args.keys.now there c.append_group.ensures.batches (own_sound own c.requires.rules) c.requires.not_empty c.requires.timer c.requires.pending room))
+    let p = part_in own c.args.stores.now in
+    on_ok_weaker c.append_group.result (λ is. subst (λ (o : Pipeline). GroupsUnsent c.args.moment c.args.keys.now p us us own o) (sym is)
+    (λ there room. groups_appended (written_with us p own) p c.args.moment c.args.keys.now there c.append_group.ensures.batches (own_sound own c.requires.rules) c.requires.not_empty c.requires.timer c.requires.pending room))
     c.append_group.ensures.on_success
 
 pub returns-then-not-fills-clause-gone : goal.returns-then-not-fills-clause-gone
@@ -108,8 +109,9 @@ note-requires c =
     omega (arith, few, most)
 
 pub returns-clause-on_success : goal.returns-clause-on_success
-returns-clause-on_success c = λ p there room.
+returns-clause-on_success c = λ there room.
     let own = c.args.self.now in
+    let p = part_in own c.args.stores.now in
     let us = c.args.leaving.now.unsent in
     let us' = c.add_all.new.self.unsent in
     let l' : LedgerData = c.add_all.new.ledger in
@@ -121,8 +123,8 @@ returns-clause-on_success c = λ p there room.
     let mid : Pipeline = record own { ledger = l' } in
     let is : c.exchange.new.self ≡ added c.args.moment c.args.keys.now own.batcher = c.exchange.ensures.pending ∙ c.in_ok-planned.ensures.pending in
     let n : ℕ = length c.args.keys.now in
-    let sends = adds_sends own bs c.args.leaving.now c.add_all.new.self n c.move_spans.new.self l' c.move_spans.ensures c.in_ok-add_all.ensures p there' in
-    let left = adds_left own bs c.args.leaving.now c.add_all.new.self n c.move_spans.new.self l' c.move_spans.ensures c.in_ok-add_all.ensures p there' in
+    let sends = adds_sends p own bs c.args.leaving.now c.add_all.new.self n c.move_spans.new.self l' c.move_spans.ensures c.in_ok-add_all.ensures there' in
+    let left = adds_left p own bs c.args.leaving.now c.add_all.new.self n c.move_spans.new.self l' c.move_spans.ensures c.in_ok-add_all.ensures there' in
     subst (λ (b : batcher.State ℕ). let new : Pipeline = record mid { batcher = b } in Groups c.args.moment c.args.keys.now p (written_with us p own) (written_with us' p new)) (sym is)
     (groups_by (written_with us p own) (written_with us' p mid) p c.args.moment c.args.keys.now sent there (ap (λ (b : List (Batch ℕ)). all_sent (map (batch_at p) b)) bs_are) sends refl left
     (own_sound own c.requires.rules) c.requires.not_empty c.requires.timer c.requires.pending room)

@@ -5,12 +5,13 @@ use Rattle.span_batcher.specs.Maps.{spans_of}
 use Rattle.tail_policy.specs.declared.note.TraceNote.{TraceNote}
 use Rattle.trace_rows.specs.declared.table.Row.{Row}
 use Rattle.tenant_stores.specs.Counts.{count, range}
+use Rattle.tenant_stores.specs.declared.stores.Stores.{Stores}
 use Rattle.tenant_stores.specs.Part.{Part, part}
 use Rattle.tenant_stores.specs.Shows.{row_shown}
 use Rattle.tenant_stores.proofs.Lists.{count-append}
 use Rattle.tenant_pipeline.specs.declared.pipeline.Pipeline.{Pipeline}
 use Rattle.tenant_pipeline.specs.StateIn.{part_in, policies_of, waiting_of, written_with}
-use Rattle.tenant_pipeline.specs.Drains.{SendsAll, SendsRow, keys_if, sampled_keys}
+use Rattle.tenant_pipeline.specs.Drains.{SendsAll, SendsRestUnsent, SendsRow, keys_if, sampled_keys}
 use Rattle.tenant_pipeline.specs.Invariant.{IsNoted}
 use Rattle.tenant_pipeline.specs.Outbox.{AreThere, HasRoom}
 use Rattle.tenant_pipeline.proofs.Behind.{written_none}
@@ -106,6 +107,10 @@ returns-in_err-send_row-clause-back c = λ start back. c.send_row.ensures.back s
 pub returns-in_err-send_rest-clause-back : goal.returns-in_err-send_rest-clause-back
 returns-in_err-send_rest-clause-back c = λ start back. back_same c.loop-number.undo start c.loop-number.self c.send_rest.new.self c.send_rest.ensures.same (c.loop-number.invariant.back start back)
 
+-- the last batch, by the part that the tenant had
+rest_over : (own : Pipeline) (stores : Stores TraceNote) (moment : ℕ) (us us' : List (Batch ℕ)) (mid new : Pipeline) → mid.tenant ≡ own.tenant → SendsRestUnsent moment (part_in mid stores) us us' mid new → SendsRestUnsent moment (part_in own stores) us us' mid new
+rest_over own stores moment us us' mid new tenant rest = subst (λ (t : ℕ). SendsRestUnsent moment (part t stores) us us' mid new) tenant rest
+
 pub write_first-requires-clause-room : goal.write_first-requires-clause-room
 write_first-requires-clause-room c =
     let own = c.args.self.now in
@@ -113,7 +118,7 @@ write_first-requires-clause-room c =
     let new = c.send_rest.new.self in
     let p = part_in own c.args.stores.now in
     let inv = c.loop-number.invariant in
-    let rest = c.in_ok-send_rest.ensures.on_success p inv.sent.there inv.sent.room in
+    let rest = rest_over own c.args.stores.now c.args.moment c.loop-number.leaving.unsent c.send_rest.new.leaving.unsent mid new (ap (λ (x : Pipeline). x.tenant) inv.sent.same) c.in_ok-send_rest.ensures.on_success inv.sent.there inv.sent.room in
     let tenant : new.tenant ≡ own.tenant = ap (λ (x : Pipeline). x.tenant) c.send_rest.ensures.same ∙ ap (λ (x : Pipeline). x.tenant) inv.sent.same in
     subst (λ (t : ℕ). HasRoom (written_with c.send_rest.new.leaving.unsent (part t c.args.stores.now) new)) (sym tenant) rest.room
 
@@ -137,7 +142,7 @@ returns-clause-on_success c =
     let inv = c.loop-number.invariant in
     let opened : mid.rows.opened ≡ own.rows.opened = ap (λ (x : Pipeline). x.rows.opened) inv.sent.same in
     let tenant : new.tenant ≡ own.tenant = ap (λ (x : Pipeline). x.tenant) c.send_rest.ensures.same ∙ ap (λ (x : Pipeline). x.tenant) inv.sent.same in
-    let rest = c.in_ok-send_rest.ensures.on_success p inv.sent.there inv.sent.room in
+    let rest = rest_over own c.args.stores.now c.args.moment c.loop-number.leaving.unsent c.send_rest.new.leaving.unsent mid new (ap (λ (x : Pipeline). x.tenant) inv.sent.same) c.in_ok-send_rest.ensures.on_success inv.sent.there inv.sent.room in
     let all : SendsAll c.args.moment p own (written_with us' p new) =
     all_left own p c.args.moment c.requires.holds c.loop-number.number (written_with us p mid) (written_with us' p new) (omega (arith, opened)) inv.sent rest in
     on_ok_weaker c.write_first.result (λ (same : written_with us'' (part_in new stores) last ≡ written_with us' (part_in new stores) new).

@@ -38,8 +38,8 @@ returns-then-samples-clause-on_success c =
     let verdict : verdict_of (policies_of own) row.note ≡ true = ap (λ (r : Row TraceNote). verdict_of (policies_of own) r.note) (sym same)
     ∙ (sym (c.samples.ensures ∙ ap (λ (ps : List PolicySpec). verdict_of (map policy_view ps) found.note) c.as_slice.ensures.value) ∙ c.if-samples.true) in
     let known = row_known own p (p.rows c.args.number) c.requires.there row is in
-    let groups' : GroupsUnsent c.args.moment row.keys us us' own new = subst (λ (ks : List ℕ). GroupsUnsent c.args.moment ks us us' own new) keys groups in
-    row_kept (written_with us p own) (written_with us' p new) p row c.args.moment (row_verdict own p row known.noted known.there true verdict) (groups' p known.there c.requires.room)) c.group_unsent.ensures.on_success
+    let groups' : GroupsUnsent c.args.moment row.keys p us us' own new = subst (λ (ks : List ℕ). GroupsUnsent c.args.moment ks p us us' own new) keys groups in
+    row_kept (written_with us p own) (written_with us' p new) p row c.args.moment (row_verdict own p row known.noted known.there true verdict) (groups' known.there c.requires.room)) c.group_unsent.ensures.on_success
 
 pub returns-clause-on_success : goal.returns-clause-on_success
 returns-clause-on_success c = λ row is.

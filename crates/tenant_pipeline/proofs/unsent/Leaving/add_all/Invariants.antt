@@ -1,8 +1,7 @@
 use Rattle.std.proofs.Common.{◌≡◌, ◌≤◌, ◌+◌, ℕ, drop, length, map}
 use Rattle.span_batcher.specs.Maps.{spans_of}
-use Rattle.tail_policy.specs.declared.note.TraceNote.{TraceNote}
 use Rattle.tenant_stores.specs.Counts.{count}
-use Rattle.tenant_stores.specs.Part.{Part}
+use Rattle.tenant_stores.specs.Part.{part}
 use Rattle.tenant_rules.specs.Batching.{all_sent}
 use Rattle.tenant_rules.specs.State.{State}
 use Rattle.tenant_rules.specs.Timers.{all_queued}
@@ -13,7 +12,7 @@ use Rattle.tenant_pipeline.proofs.unsent.Leaving.add_all.Given as goal
 -- some first batches were added
 abbrev pub invariant-loop-batch : goal.invariant-loop-batch
 invariant-loop-batch l = record {
-  rules : (p : Part TraceNote) → AreThere p (spans_of l.batches) → (s : State) → s.sender ≡ with_behind (unsent_at p l.fn.self.unsent) l.sender → s.ledger ≡ l.fn.ledger →
+  rules : let p = part l.tenant l.stores in AreThere p (spans_of l.batches) → (s : State) → s.sender ≡ with_behind (unsent_at p l.fn.self.unsent) l.sender → s.ledger ≡ l.fn.ledger →
       all_queued (all_sent (map (batch_at p) l.batches)) s
       ≡ all_queued (all_sent (map (batch_at p) (drop l.batch-index l.batches))) (record s { sender = with_behind (unsent_at p l.self.unsent) l.sender; ledger = l.ledger });
   gone : (key : ℕ) → count key l.self.gone.items + count key (spans_of l.self.unsent) + count key (spans_of (drop l.batch-index l.batches))

@@ -5,7 +5,7 @@ use Rattle.span_batcher.specs.Blocks.{BlockData, placed, scope_content, capped}
 use Rattle.span_batcher.proofs.Written.{scope_field}
 use Rattle.span_batcher.proofs.Blocks.{first_placed}
 use Rattle.span_batcher.proofs.Sizes.{field_of}
-use Rattle.span_batcher.proofs.encode.scope_spans_size.Goals as goal
+use Rattle.span_batcher.proofs.encode.ScopeLevelLevel.size.Goals as goal
 
 pub returns : goal.returns
 returns c =

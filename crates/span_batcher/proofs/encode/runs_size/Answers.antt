@@ -1,15 +1,15 @@
 use Rattle.std.proofs.Common.{◌≡◌, ℕ, ◌+◌, List, [], ◌∷◌, length, drop, flat_map, sym, ap, ◌∙◌, arith, length-append}
-use Rattle.span_batcher.specs.ExportText.{runs, same_scope, scope_spans_field}
+use Rattle.span_batcher.specs.ExportText.{runs}
 use Rattle.span_batcher.specs.Blocks.{BlockData, placed, alike, capped}
 use Rattle.span_batcher.proofs.Runs.{next_run, none_left}
 use Rattle.span_batcher.proofs.Sizes.{part_more}
-use Rattle.span_batcher.proofs.encode.scopes_size.Goals as goal
+use Rattle.span_batcher.proofs.encode.runs_size.Goals as goal
 
 pub loop-start-preserved : goal.loop-start-preserved
-loop-start-preserved c =
+loop-start-preserved g c =
     let texts = c.args.texts.now in
-    let same = alike texts same_scope in
-    let field : List BlockData → List ℕ = λ run. scope_spans_field (placed texts run) in
+    let same = alike texts g.L.Level.same in
+    let field : List BlockData → List ℕ = λ run. g.L.Level.field (placed texts run) in
     let blocks = c.args.blocks.now in
     let start = c.loop-start.start in
     let count = c.leading-count.result in
@@ -22,14 +22,14 @@ loop-start-preserved c =
     record {
       within = omega (arith, c.leading-count.ensures.within, c.split_at.ensures.back_len);
       fits = omega (arith, c.saturating_add-size.ensures);
-      whole = part_more size c.scope_spans_size-more.result c.saturating_add-size.result (length (field run)) (length others) c.scope_spans_size-more.ensures c.saturating_add-size.ensures ∙ (ap (λ (n : ℕ). capped (size + n)) (sym parts) ∙ c.loop-start.invariant.whole);
+      whole = part_more size c.size-more.result c.saturating_add-size.result (length (field run)) (length others) c.size-more.ensures c.saturating_add-size.ensures ∙ (ap (λ (n : ℕ). capped (size + n)) (sym parts) ∙ c.loop-start.invariant.whole);
     }
 
 pub returns : goal.returns
-returns c =
+returns g c =
     let texts = c.args.texts.now in
-    let same = alike texts same_scope in
-    let field : List BlockData → List ℕ = λ run. scope_spans_field (placed texts run) in
+    let same = alike texts g.L.Level.same in
+    let field : List BlockData → List ℕ = λ run. g.L.Level.field (placed texts run) in
     let none : runs same (drop c.loop-start.start c.args.blocks.now) ≡ [] = none_left same c.args.blocks.now c.loop-start.start c.loop-start-test.false in
     let left : length (flat_map field (runs same (drop c.loop-start.start c.args.blocks.now))) ≡ 0 = ap (λ (rs : List (List BlockData)). length (flat_map field rs)) none in
     let so_far : c.loop-start.size ≡ capped (c.loop-start.size + length (flat_map field (runs same (drop c.loop-start.start c.args.blocks.now)))) = omega arith in
