@@ -21,8 +21,10 @@ const LONGEST_REST: u64 = 1;
 const LONGEST_REQUEST: u64 = 5;
 
 /// So many bytes a request may have. Of who isn't let in none is kept; whoever is, which without a token is whoever
-/// reaches the address, can have all threads hold as many. A document of settings has far fewer.
-const LARGEST_REQUEST: u64 = 1_048_576;
+/// reaches the address, can have all threads hold as many, and read documents of which each byte takes up to 1,200,
+/// where unknown keys are nested: 0.3 GB a thread. A document of 64 policies with 64 values of 50 bytes each has
+/// 227,000.
+const LARGEST_REQUEST: u64 = 262_144;
 
 /// A service's admin port: where it listens, and who is let in there.
 #[derive(Clone, Copy)]

@@ -3,7 +3,8 @@
 use crate::beat::Signals;
 use crate::visit::{Client, Patience};
 use std::io::ErrorKind;
-use std::net::{Net, TcpListener, TcpStream};
+use std::net::{Net, Shutdown, TcpListener, TcpStream};
+use std::os::fd::OwnedFd;
 use std::sync::{Mutex, Wait};
 use std::thread;
 use std::time::{Clock, Duration};
@@ -49,8 +50,8 @@ impl<'h> Entrance<'h> {
             Ok((stream, _peer)) => self.limited(stream, signals),
             Err(error) => {
                 // One client that has gone again says nothing of the next. Else descriptors or memory are wanting, of
-                // all receivers.
-                if error.kind() != ErrorKind::ConnectionAborted {
+                // all receivers, or nobody is to come any more.
+                if error.kind() != ErrorKind::ConnectionAborted && !signals.is_over() {
                     thread::sleep(rt, Duration::from_millis(REST));
                 }
                 None
@@ -76,6 +77,19 @@ impl<'h> Entrance<'h> {
     }
 }
 
+/// Ends the listening, so that nobody waits for a client any more, whatever has become of the listener's address: who
+/// came and wasn't taken is reset, and who comes is refused. False where there is no descriptor for it, or where the
+/// system ends no listening so.
+fn shut(listener: &TcpListener) -> bool {
+    match listener.try_clone() {
+        // std shuts streams alone.
+        Ok(another) => TcpStream::from(OwnedFd::from(another))
+            .shutdown(Shutdown::Both)
+            .is_ok(),
+        Err(_) => false,
+    }
+}
+
 /// Makes a connection to the listener's own address, so that the receiver whose turn it is doesn't wait for one; the
 /// others then take their turns. Where the listener has no room for it, who came before wakes them. False where it
 /// can't be made, as while there is no descriptor.
@@ -92,13 +106,13 @@ where
     }
 }
 
-/// Tries again until the receiver is woken: connections that end give their descriptors back.
+/// Tries again until nobody waits for a client, or who does is woken: connections that end give their descriptors back.
 pub fn wake_at_last<R>(rt: &R, listener: &TcpListener)
 where
     R: Net<Listener = TcpListener, Stream = TcpStream> + Wait + Clock,
 {
     'attempts: for _ in rt.forever() {
-        if wake(rt, listener) {
+        if shut(listener) || wake(rt, listener) {
             return;
         }
         thread::sleep(rt, Duration::from_millis(REST));

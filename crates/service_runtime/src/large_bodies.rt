@@ -2,11 +2,12 @@
 
 use std::sync::{Condvar, Mutex, Wait};
 
-/// A body of so many bytes waits for no other one.
-const SMALL: usize = 262_144;
+/// A body of so many bytes waits for no other one. Where it isn't canonical it may take a hundred times its bytes, so
+/// that each receiver may take 5 MB for one.
+const SMALL: usize = 49_152;
 
-/// So many bytes of larger bodies are made ready at a time: two of the longest ones that are taken.
-const ROOM: usize = 41_943_040;
+/// So many bytes of larger bodies are made ready at a time: one of the longest that are taken.
+const ROOM: usize = 20_971_520;
 
 /// Room for large bodies while they are made ready and posted: each takes many times its bytes meanwhile.
 #[derive(Drop)]
