@@ -66,6 +66,12 @@ def resources_and_spans(n):
     return tenant(), post(0, body) + DUE, "job a 1 "
 
 
+def scopes_and_resource(n):
+    """n scopes of a span each under one resource with a text of 30 n bytes."""
+    scopes = b"".join(piece(2, piece(2, ids(1, at))) for at in range(n))
+    return tenant(), post(0, piece(1, piece(1, attribute(1, "k", "v" * 30 * n)) + scopes)) + DUE, "job a 1 "
+
+
 def attributes(n):
     """One span of n attributes, of which policies look for the last one."""
     last = f"key-{n - 1:08}"
@@ -220,7 +226,8 @@ def remembered(n):
 
 def posts_of_a_trace(n):
     """n posts of a span to one trace, which is kept."""
-    return (tenant(), "".join(post(0, request([ids(1, at)])) for at in range(n)) + DUE, "job a 1 ")
+    return (tenant(wait=86_400_000), "".join(post(0, request([ids(1, at)])) for at in range(n)) + "turn 0 86400000\n",
+            "job a 1 ")
 
 
 def drained(n):
@@ -274,6 +281,7 @@ def short_lines(n):
 # a shape and its smaller size
 SHAPES = {
     "resources times spans": (resources_and_spans, 1_000),
+    "scopes times resource": (scopes_and_resource, 1_000),
     "attributes of a span": (attributes, 12_500),
     "nested attributes": (nesting, 500),
     "unknown fields": (unknown_fields, 25_000),

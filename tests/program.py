@@ -15,6 +15,8 @@ import tempfile
 import tomllib
 from pathlib import Path
 
+from replay.make_script import piece
+
 HERE = Path(__file__).resolve().parent.parent
 PROGRAM = os.path.abspath(sys.argv[1] if len(sys.argv) > 1 else HERE / "trace_collector")
 SETTINGS = str(HERE / "crates/trace_collector_program/data/settings.toml")
@@ -47,6 +49,11 @@ def ended(arguments, script=b"", **how):
     how = {"stdout": subprocess.PIPE, "stderr": subprocess.PIPE, **how}
     done = subprocess.run([PROGRAM, *arguments], input=script, timeout=60, check=False, **how)
     return done.returncode, done.stdout, done.stderr
+
+
+def in_one_scope(spans):
+    """A request in which spans stand under a resource and a scope of which nothing is told."""
+    return piece(1, piece(2, spans))
 
 
 def usage():
@@ -598,6 +605,22 @@ def late_spans():
             check(f"late spans, {size} remembered", ended(["replay", str(file)], script.encode()), (0, (begin + end).encode(), b""))
 
 
+def largest_batch():
+    """A batch of 32 MiB is sent; one of a byte more finds no room, and its spans are counted where those of a full queue are."""
+    most, gone = 2**25, "retry_exhausted=0 back_end_refused=0 back_end_rejected=0 invalid=0 over_budget=0\n"
+    counts = "undecided=0 pending=0 queued=0 active={} exported=0 not_sampled=0 too_early=0 queue_full={}"
+    ids = [piece(1, b"\x11" * 16) + piece(2, bytes([number]) * 8) for number in (1, 2)]
+    first = piece(2, ids[0] + piece(5, b"n" * 2**24))
+    room = most - len(in_one_scope(first + piece(2, ids[1] + piece(5, b"n" * 2**23)))) + 2**23
+    for length, active, refused in ((room, 2, 0), (room + 1, 0, 2)):
+        second = piece(2, ids[1] + piece(5, b"n" * length))
+        posts = "".join(f"post a 0 {in_one_scope(span).hex()}\n" for span in (first, second))
+        job = f"job a 1 {in_one_scope(first + second).hex()}" if active else "worked a"
+        wanted = ("reply a 200 -\n" * 2 + f"{job}\nreport a accepted=2 {counts.format(active, refused)} {gone}").encode()
+        status, out, err = ended(["replay", SETTINGS], f"{posts}turn 0 1000\nreport a 1000\n".encode())
+        check(f"a batch with a name of {length} bytes, which ends so: {out[-300:]!r}", (status, out == wanted, err), (0, True, b""))
+
+
 def course():
     """Only with --verbose is standard error told of a service's course; what is told on standard output is the same."""
     counts = ("accepted", "undecided", "pending", "queued", "active", "exported", "not_sampled", "too_early", "queue_full",
@@ -660,6 +683,7 @@ page_of_faults()
 tables_of_settings()
 answers_at_once()
 late_spans()
+largest_batch()
 threads()
 print("the program prints and ends as it has to" if not failed else f"{failed} wrong")
 sys.exit(min(failed, 1))

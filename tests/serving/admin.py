@@ -239,7 +239,7 @@ def refused_in_json(folder):
 def in_bytes(folder):
     """A request has no more bytes than it may, its head among them, also behind the leave to send its body. Who sends more is
     told nothing, with the token or without, and of whoever has no token nothing is held."""
-    most = 1_048_576
+    most = 262_144
     file = Path(folder, "token")
     file.write_text(TOKEN + "\n")
 
@@ -272,7 +272,7 @@ def in_bytes(folder):
         large = b"POST /tenants HTTP/1.1\r\nHost: admin\r\nContent-Length: 20000000\r\n\r\n" + b"#" * 20_000_000
         in_threads(*[lambda: check("20 MB without the token", told(service, large), b"")] * 8)
         taken = bytes_of(service.run.pid, "VmHWM") - before
-        check(f"memory for eight of them: {taken}", taken < most, True)
+        check(f"memory for eight of them: {taken}", taken < 1_048_576, True)
         check("with it", service.ask("/drain", "POST", more=right)[0], 200)
         check("the end", (service.run.stdout.read().decode(), service.run.wait(MOST)), (line_of("a") + line_of("new"), 0))
 

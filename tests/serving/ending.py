@@ -60,9 +60,18 @@ def nowhere(name, back_end):
     return section
 
 
+def is_refused(port):
+    """Whether nobody listens at a port any more."""
+    try:
+        socket.create_connection(("127.0.0.1", port), timeout=talk.MOST).close()
+    except ConnectionError:
+        return True
+    return False
+
+
 def with_clients(folder):
     """A client that keeps its connection is told that the service shuts down, and what it was told before was counted
-    and sent. Who says nothing keeps the service, and is told so once more."""
+    and sent. Who says nothing keeps the service, and is told so once more; who connects meanwhile is refused."""
     with BackEnd(None) as back_end, Service(folder, [tenant("a", back_end, wait=86_400_000)]) as service:
         with service.connect() as kept, service.connect() as idle:
             check("a post", service.post("a", body(1, 1), kept), (200, b""))
@@ -75,6 +84,7 @@ def with_clients(folder):
             check("what is no request yet", service.post("a", body(3, 3)[:33], kept), (400, b"\x12\x0cbad protobuf"))
             back_end.release()
             check("reports", service.hear(), line_of("a", accepted=taken, exported=taken))
+            wait_for(lambda: is_refused(service.port), "who connects is refused")
             check("it waits for its clients", service.run.poll(), None)
             for _ in range(60):     # the last report is heard a moment before the service is over
                 idle.settimeout(60)

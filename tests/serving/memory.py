@@ -4,9 +4,10 @@ import re
 import resource
 from itertools import count
 from pathlib import Path
+from time import sleep
 
 from replay.make_script import number_field, piece
-from serving.talk import ERRORS, BackEnd, Service, body, check, in_threads, read_message, tenant, wait_for
+from serving.talk import ERRORS, BackEnd, Service, body, check, in_threads, line_of, read_message, tenant, wait_for
 
 # Each of these spans has a resource of its own, so that a body takes many times its bytes while it is made ready, and more
 # than what the service keeps back.
@@ -18,7 +19,7 @@ BODY = 1_000_000
 # for one when the body comes.
 WAITS, ISNT_SAMPLED = (60_000, 2), (1, 1)
 # So many of these are more than are made ready at a time.
-LARGE, MANY, AT_A_TIME = 10_000_000, 12, 41_943_040
+LARGE, MANY, AT_A_TIME = 10_000_000, 12, 20_971_520
 IDS = piece(1, b"\1" * 16) + piece(2, b"\2" * 8)
 SPAN = piece(2, IDS)
 EMPTY = piece(1, b"")
@@ -69,9 +70,9 @@ SHAPES = {
     "the same, with a scope and a schema": (piece(2, EMPTY + SPAN + URL), in_resource, 8),
     "spans": (SPAN, in_scope, 8),
     "spans that are written anew": (piece(2, IDS + piece(3, b"")), in_scope, 8),
-    "resource spans of a span, each of another resource": (of_another_resource, alone, 8),
-    "resource spans of a span, each of another resource and scope": (of_another_scope, alone, 8),
-    "the same, each text another": (of_four_other_texts, alone, 8),
+    "resource spans of a span, each of another resource": (of_another_resource, alone, 9),
+    "resource spans of a span, each of another resource and scope": (of_another_scope, alone, 12),
+    "the same, each text another": (of_four_other_texts, alone, 13),
 }
 
 
@@ -269,4 +270,71 @@ def a_resource_has_room_once(folder):
     check(f"{more} bytes of addresses more, at most {ADDRESSES}", more <= ADDRESSES, True)
 
 
-TESTS = (a_resource_has_room_once, late_spans_leave_nothing, refused_while_made_ready, most_while_made_ready, many_large_bodies, bodies_that_nobody_wants)
+# Each of so many traces has a span under each of two resources of so many bytes, so that a batch of them has the resources
+# in turn: 819 MB, of 32 MiB that a batch may have.
+TRACES, ONE_RESOURCE = 4_096, 100_000
+
+
+def two_resources_in_turn():
+    def under(letter, first):
+        spans = (piece(2, piece(1, b"%016d" % trace) + piece(2, b"%08d" % (first + trace))) for trace in range(1, TRACES + 1))
+        return piece(1, piece(1, piece(1, piece(1, letter * ONE_RESOURCE))) + piece(2, b"".join(spans)))
+
+    return under(b"a", 0) + under(b"b", TRACES)
+
+
+def a_batch_has_a_bound(folder):
+    """A batch that would be larger than any may be isn't written, by a timer or by the drain at the end: its spans are
+    dropped as those that meet a full queue, what others send leaves, and the service ends."""
+    dropped, text = 2 * TRACES, two_resources_in_turn()
+    with BackEnd() as back_end:
+        sections = [tenant("a", back_end, timeout=50, batch=2 * dropped), tenant("b", back_end),
+                    tenant("c", back_end, timeout=60_000, batch=2 * dropped)]
+        with Service(folder, sections, shards=1, receivers=1, senders=1, parts=1) as service:
+            check("one span", service.post("b", body(1, 1)), (200, b""))
+            wait_for(lambda: "exported=1 " in service.report("b"), "the first batch is sent")
+            before = bytes_of(service.run.pid, "VmPeak")
+            check("two resources in turn", service.post("a", text), (200, b""))
+            wait_for(lambda: f"queue_full={dropped} " in service.report("a"), "the timer dropped the batch")
+            check("another's span", service.post("b", body(2, 2)), (200, b""))
+            wait_for(lambda: "exported=2 " in service.report("b"), "it is sent")
+            check("two resources that wait", service.post("c", text), (200, b""))
+            wait_for(lambda: f"pending={dropped} " in service.report("c"), "they are decided")
+            more = bytes_of(service.run.pid, "VmPeak") - before
+            told = line_of("a", accepted=dropped, queue_full=dropped) + line_of("b", accepted=2, exported=2)
+            told += line_of("c", accepted=dropped, queue_full=dropped)
+            check("the end", service.end(), (0, told, b""))
+    check(f"{more} bytes of addresses more, at most {ADDRESSES}", more <= ADDRESSES, True)
+
+
+# So many bodies of so many bytes, of one span each under a resource of its own, of which no span is kept; and so many times
+# a span each under the same resources, so that some span has them at all times.
+BODIES, AGAIN = 8, 12
+# A body that goes gives its memory back at once: the C library maps each alone, and no heap keeps it.
+MAPPED = ("MALLOC_ARENA_MAX=1", "MALLOC_MMAP_THRESHOLD_=131072")
+
+
+def bodies_leave_with_their_spans(folder):
+    """What a body had beside the texts of its resources is let go with its spans, also while later spans have the same
+    resources."""
+    def under(number, trace, more=b""):
+        span = piece(2, piece(1, b"%016d" % trace) + piece(2, b"%08d" % trace) + more)
+        return piece(1, piece(1, piece(1, piece(1, b"%d" % number))) + piece(2, span))
+
+    with BackEnd() as back_end, Service(folder, [tenant("a", back_end, wait=400, policies=ERRORS)], shards=1, receivers=1,
+                                        senders=1, parts=1, under=("env", *MAPPED)) as service:
+        check("one span", service.post("a", body(1, 1)), (200, b""))
+        before = bytes_of(service.run.pid, "VmRSS")
+        for number in range(1, BODIES + 1):
+            text = under(number, number, piece(5, b"n" * BODY))
+            check(f"body {number}", service.post("a", text), (200, b""))
+        for time in range(1, AGAIN + 1):
+            text = b"".join(under(number, BODIES * time + number) for number in range(1, BODIES + 1))
+            check(f"the resources for the {time}th time", service.post("a", text), (200, b""))
+            sleep(0.1)
+        check("the large spans are dropped", int(service.report("a").split("not_sampled=")[1].split(" ")[0]) > BODIES, True)
+        more = bytes_of(service.run.pid, "VmRSS") - before
+    check(f"{more} bytes more, at most {BODY * BODIES // 2}", more <= BODY * BODIES // 2, True)
+
+
+TESTS = (a_batch_has_a_bound, bodies_leave_with_their_spans, a_resource_has_room_once, late_spans_leave_nothing, refused_while_made_ready, most_while_made_ready, many_large_bodies, bodies_that_nobody_wants)
