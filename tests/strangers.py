@@ -3,7 +3,7 @@
 
     python3 tests/strangers.py [PROGRAM] [NAME..]     # all, or those of these names
 
-Takes the program's path, `./trace_collector` if there is none. `curl`, `ab`, `wrk`, `h2load`, `nghttp`, `nginx`, `haproxy`,
+Takes the program's path, `./trace_collector` if there is none. `curl`, `ab`, `wrk`, `h2load`, `nghttp`, `nginx` (with `openssl`), `haproxy`,
 `apache2`, `varnishd`, `promtool`, `prometheus`, `go` and its OpenTelemetry SDK, `node`, and the Python library h11, a strict reader and writer of HTTP/1.1,
 are used where they are installed; it says which aren't. h11 posts ten thousand messages that are made by chance, and is a
 back end that answers as many by chance; Go's net/http and Node's http do so with three thousand (tests/strangers/). What has to come is what docs/HTTP.md says, and docs/METRICS.md of metrics. It prints what is wrong, and
@@ -26,6 +26,7 @@ from pathlib import Path
 
 from serving import runs, talk
 from serving.agreement import SPAN
+from serving.proxied import Proxy, between_nginx
 from serving.scraping import by_prometheus, by_promtool
 from serving.talk import MOST, BackEnd, Service, body, check, free_port, line_of, request, tenant, wait_for
 
@@ -39,6 +40,8 @@ STRANGERS = HERE / "tests" / "strangers"
 SEED = 20251126
 MESSAGES, JOBS, POSTS = 10_000, 10_000, 200
 PEER_MESSAGES, PEER_JOBS = 3_000, 3_000
+# So many seconds are enough for ten thousand messages, also on a machine that is busy with other work.
+TEN_THOUSAND = 20 * MOST
 TYPE, FIELD = "Content-Type: application/x-protobuf", "X-Scope-OrgID: a"
 URL = "http://127.0.0.1:{}/v1/traces"
 # Where Debian's packages have what is written in Go.
@@ -208,32 +211,6 @@ VARNISH = """vcl 4.1;
 backend collector {{ .host = "127.0.0.1"; .port = "{to}"; .max_connections = 8; }}
 sub vcl_recv {{ return (pass); }}
 """
-
-
-class Proxy:
-    """A proxy in front of a service, with these settings."""
-
-    def __init__(self, folder, settings, to, *words):
-        self.port = free_port()
-        file = Path(folder, "proxy.conf")
-        file.write_text(settings.format(folder=folder, port=self.port, to=to))
-        words = [word.format(folder=folder, port=self.port) for word in words]
-        self.run = subprocess.Popen([*words, str(file)], stdout=subprocess.DEVNULL, stderr=subprocess.DEVNULL)
-
-    def __enter__(self):
-        def is_up():
-            try:
-                socket.create_connection(("127.0.0.1", self.port), timeout=MOST).close()
-                return True
-            except ConnectionRefusedError:
-                return self.run.poll() is not None
-
-        wait_for(is_up, "the proxy listens")
-        return self
-
-    def __exit__(self, *_):
-        self.run.kill()
-        self.run.wait()
 
 
 def behind(folder, settings, *words):
@@ -408,6 +385,7 @@ def by_h11(folder):
     chance = random.Random(SEED)
     with BackEnd() as ones, BackEnd() as twos, Service(
             folder, [tenant("a", ones, batch=100, timeout=100), tenant("b", twos, batch=100, timeout=100)]) as service:
+        service.lives_for(TEN_THOUSAND)
         client = Client(service, chance)
         taken = {"a": Counter(), "b": Counter()}
         told = Counter()
@@ -526,6 +504,7 @@ def to_end(folder, end, jobs):
     is counted as it was answered last."""
     sections = [tenant(name, end, consumers=4, queue=jobs) for name in "abcd"]
     with Service(folder, sections, senders=8) as service:
+        service.lives_for(TEN_THOUSAND)
         with service.connect() as peer:
             for number in range(jobs):
                 text = request((f"{number:016}".encode(), b"00000001", b""))
@@ -691,7 +670,7 @@ def by_sdk(folder):
 
 
 TESTS = {test.__name__: test for test in (
-    by_curl, by_ab, by_wrk, by_h2load, by_nghttp, behind_nginx, behind_haproxy, behind_apache2, behind_varnishd, by_h11, to_h11,
+    by_curl, by_ab, by_wrk, by_h2load, by_nghttp, behind_nginx, between_nginx, behind_haproxy, behind_apache2, behind_varnishd, by_h11, to_h11,
     by_go, to_go, by_sdk, by_node, to_node, by_promtool, by_prometheus)}
 
 

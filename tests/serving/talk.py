@@ -10,7 +10,7 @@ from pathlib import Path
 
 from replay.make_script import piece
 
-# no single wait is longer, and no service is there for longer than twice that
+# no single wait is longer, and no service is there for longer than twice that, unless a test lets it (`lives_for`)
 MOST = 60
 TAKEN = b"HTTP/1.1 200 OK\r\nContent-Length: 0\r\n\r\n"
 BUSY = b"HTTP/1.1 503 Service Unavailable\r\nContent-Length: 0\r\n\r\n"
@@ -186,10 +186,8 @@ class Service:
         pipe = subprocess.PIPE
         words = [*under, program, "serve", str(file), *options]
         self.run = subprocess.Popen(words, stdin=pipe, stdout=pipe, stderr=pipe)
-        # Whoever waits for what it prints waits no longer.
-        self.watch = threading.Timer(2 * MOST, self.run.kill)
-        self.watch.daemon = True
-        self.watch.start()
+        self.watch = None
+        self.lives_for(2 * MOST)
         self.port = None
         self.ended = None
 
@@ -203,6 +201,14 @@ class Service:
         self.run.wait()
         for file in (self.run.stdin, self.run.stdout, self.run.stderr):
             file.close()
+
+    def lives_for(self, seconds):
+        """It is killed so many seconds from now, so that whoever waits for what it prints waits no longer."""
+        if self.watch is not None:
+            self.watch.cancel()
+        self.watch = threading.Timer(seconds, self.run.kill)
+        self.watch.daemon = True
+        self.watch.start()
 
     def is_up(self):
         if self.run.poll() is not None:
