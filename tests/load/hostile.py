@@ -121,23 +121,30 @@ def counts_of(service, name):
     return {word: int(count) for word, count in re.findall(r"(\w+)=(\d+)", service.report(name))}
 
 
-def section(name, back_end):
+def section(name, back_end, batch):
     """A tenant with room for all."""
     sampling = "[tenant.tail_sampling]\n"
-    text = tenant(name, back_end, most=100_000_000, timeout=200, consumers=10)
+    text = tenant(name, back_end, most=100_000_000, timeout=200, consumers=10, batch=batch)
     return text.replace(sampling, f"{sampling}num_traces = 1000000\n")
+
+
+def bodies(text, valid, count):
+    """So many bodies like this one. Those of a single large span are of a trace each, and so each in a batch of its own:
+    two of them in one would be more than a batch may have."""
+    return [text.replace(ids(1, 1), ids(number, 1), 1) if valid == 1 else text for number in range(1, count + 1)]
 
 
 def posted(folder, what, text, valid, at_a_time):
     """The figures of one run."""
-    sections = [section(name, back_end) for name, back_end in folder[1].items()]
+    sections = [section(name, back_end, 1 if valid == 1 else 8192) for name, back_end in folder[1].items()]
     with Service(folder[0], sections, shards=1, receivers=4, senders=4, parts=1) as service:
         service.watch.cancel()
         check("a post", service.post("b", body(1, 1))[0], 200)
         before, begun = megabytes(service, "VmHWM"), seconds(service)
         other, told = Other(service), []
         other.start()
-        in_threads(*[lambda: told.append(service.post("a", text)[0])] * at_a_time)
+        in_threads(*(lambda made=made: told.append(service.post("a", made)[0])
+                     for made in bodies(text, valid, at_a_time)))
         replied = seconds(service) - begun
         counts = {}
 
