@@ -67,9 +67,12 @@ def resources_and_spans(n):
 
 
 def scopes_and_resource(n):
-    """n scopes of a span each under one resource with a text of 30 n bytes."""
-    scopes = b"".join(piece(2, piece(2, ids(1, at))) for at in range(n))
-    return tenant(), post(0, piece(1, piece(1, attribute(1, "k", "v" * 30 * n)) + scopes)) + DUE, "job a 1 "
+    """Behind another resource, n scopes of a span each under one with a text of 30 n bytes. Each second span is late, of
+    a trace that isn't sampled, so that nothing of its scope is kept."""
+    scopes = b"".join(piece(2, piece(2, ids(2, at) if at % 2 else ids(1, at) + ERROR)) for at in range(n))
+    text = piece(1, piece(2, piece(2, ids(1, n) + ERROR))) + piece(1, piece(1, attribute(1, "k", "v" * 30 * n)) + scopes)
+    script = post(0, request([ids(2, n)])) + DUE + post(1000, text) + "turn 0 2000\n"
+    return tenant(policies=NONE), script, "job a 1 "
 
 
 def attributes(n):

@@ -425,5 +425,20 @@ def few_descriptors(folder):
         check("the end", service.end(), (0, "", b""))
 
 
+def no_descriptor_at_the_end(folder):
+    """Where clients have all descriptors but the one that is kept for who comes next, the service ends once they go."""
+    with BackEnd() as back_end, ExitStack() as stack, Service(
+            folder, [tenant("a", back_end)], "--connections", "64", shards=1, senders=1) as service:
+        resource.prlimit(service.run.pid, resource.RLIMIT_NOFILE, (FEW, FEW))
+        while len(list(Path(f"/proc/{service.run.pid}/fd").iterdir())) < FEW - 1:
+            check("no request", service.post("a", b"\1", stack.enter_context(service.connect()))[0], 400)
+        service.run.stdin.close()
+        check("a report", service.hear(), line_of("a"))
+        time.sleep(0.2)
+        stack.close()
+        check("the end", service.end(), (0, "", b""))
+
+
 TESTS = (resting_clients, slow_clients, slow_requests, slow_behind_leave, both_limits, unread_replies, the_end_of_resting,
-         back_ends_that_rest, answers_without_end, no_connection, many_connections, many_threads, few_descriptors)
+         back_ends_that_rest, answers_without_end, no_connection, many_connections, many_threads, few_descriptors,
+         no_descriptor_at_the_end)

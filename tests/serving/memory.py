@@ -275,12 +275,12 @@ def a_resource_has_room_once(folder):
 TRACES, ONE_RESOURCE = 4_096, 100_000
 
 
-def two_resources_in_turn():
+def two_resources_in_turn(traces=TRACES):
     def under(letter, first):
-        spans = (piece(2, piece(1, b"%016d" % trace) + piece(2, b"%08d" % (first + trace))) for trace in range(1, TRACES + 1))
+        spans = (piece(2, piece(1, b"%016d" % trace) + piece(2, b"%08d" % (first + trace))) for trace in range(1, traces + 1))
         return piece(1, piece(1, piece(1, piece(1, letter * ONE_RESOURCE))) + piece(2, b"".join(spans)))
 
-    return under(b"a", 0) + under(b"b", TRACES)
+    return under(b"a", 0) + under(b"b", traces)
 
 
 def a_batch_has_a_bound(folder):
@@ -305,6 +305,25 @@ def a_batch_has_a_bound(folder):
             told += line_of("c", accepted=dropped, queue_full=dropped)
             check("the end", service.end(), (0, told, b""))
     check(f"{more} bytes of addresses more, at most {ADDRESSES}", more <= ADDRESSES, True)
+
+
+# A batch of so many of these traces has 30 MB.
+SOME_TRACES = 150
+
+
+def a_full_queue_takes_no_memory(folder):
+    """Where the queue is full a batch isn't written: what a large one takes is less than half of its bytes."""
+    size, spans = 2 * SOME_TRACES * ONE_RESOURCE, 2 * SOME_TRACES
+    with BackEnd(None) as back_end, Service(folder, [tenant("a", back_end, timeout=50, batch=2 * spans, queue=1)], shards=1,
+                                            receivers=1, senders=1, parts=1) as service:
+        for where in ("active", "queued"):
+            check(f"the one that is {where}", service.post("a", body(1, 1)), (200, b""))
+            wait_for(lambda where=where: f"{where}=1 " in service.report("a"), f"it is {where}")
+        before = bytes_of(service.run.pid, "VmHWM")
+        check("two resources in turn", service.post("a", two_resources_in_turn(SOME_TRACES)), (200, b""))
+        wait_for(lambda: f"queue_full={spans} " in service.report("a"), "the batch is dropped")
+        more = bytes_of(service.run.pid, "VmHWM") - before
+    check(f"{more} bytes more, less than {size // 2}", more < size // 2, True)
 
 
 # So many bodies of so many bytes, of one span each under a resource of its own, of which no span is kept; and so many times
@@ -337,4 +356,5 @@ def bodies_leave_with_their_spans(folder):
     check(f"{more} bytes more, at most {BODY * BODIES // 2}", more <= BODY * BODIES // 2, True)
 
 
-TESTS = (a_batch_has_a_bound, bodies_leave_with_their_spans, a_resource_has_room_once, late_spans_leave_nothing, refused_while_made_ready, most_while_made_ready, many_large_bodies, bodies_that_nobody_wants)
+TESTS = (a_batch_has_a_bound, a_full_queue_takes_no_memory, bodies_leave_with_their_spans, a_resource_has_room_once,
+         late_spans_leave_nothing, refused_while_made_ready, most_while_made_ready, many_large_bodies, bodies_that_nobody_wants)
