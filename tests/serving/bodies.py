@@ -260,5 +260,24 @@ def without_a_bound(folder):
         check("the end", service.end(), (0, line_of("a"), b""))
 
 
+def behind_few_of_another(folder):
+    """Eight of one tenant's longest bodies are made ready one after another. Another tenant's body that isn't small
+    waits for the one that has begun, maybe for the next, and not for all that were there before it."""
+    bodies, longest = 8, b"\x12\x00" * ((LARGEST - 20) // 2)
+    text, later = piece(1, piece(2, longest)), piece(2, bytes(20 * PARTED))
+    with BackEnd() as back_end, ExitStack() as stack, Service(
+            folder, [tenant(name, back_end) for name in "ab"], receivers=bodies + 1) as service:
+        peers = [begin(stack, service, head_of("a", len(text)) + text) for _ in range(bodies)]
+        other = begin(stack, service, head_of("b", len(later)) + later)
+        for peer in peers:
+            peer.sendall(text[-1:])
+        wait_for(lambda: select.select(peers, [], [], 0)[0], "the first one is answered")
+        before = len(select.select(peers, [], [], 0)[0])
+        other.sendall(b"\0")
+        check("the other's", read_message(other.recv), REPLY)
+        meanwhile = len(select.select(peers, [], [], 0)[0]) - before
+        check(f"{meanwhile} of {bodies} were answered before it", meanwhile <= 2, True)
+
+
 TESTS = (one_at_a_time, each_end, a_resting_body, a_body_that_never_comes, heads_that_claim_nothing, gone_meanwhile,
-         while_it_is_made_ready, many_small_ones, what_they_hold, without_a_bound)
+         while_it_is_made_ready, many_small_ones, what_they_hold, without_a_bound, behind_few_of_another)

@@ -2,7 +2,7 @@
 
 import re
 import resource
-from itertools import count
+from itertools import count, cycle
 from pathlib import Path
 from time import sleep
 
@@ -166,19 +166,19 @@ def most_while_made_ready(folder):
 
 
 def many_large_bodies(folder):
-    """Twelve bodies at once, each of which takes seven times its bytes while it is made ready, take no more
-    than as many bytes as are made ready at a time do, beside their own. A small one is answered too. Threads share
+    """Twelve bodies of three tenants at once, each of which takes seven times its bytes while it is made ready, take no
+    more than as many bytes as are made ready at a time do, beside their own. A small one is answered too. Threads share
     their memory, so that what one gave back isn't kept for it alone."""
     again, round_it, most = SHAPES["resource spans of a span"]
     text = round_it(again * (LARGE // len(again)))
     told = []
-    with BackEnd() as back_end, Service(folder, [tenant("a", back_end, policies=ERRORS, most=1)], shards=1,
+    with BackEnd() as back_end, Service(folder, [tenant(name, back_end, policies=ERRORS, most=1) for name in "abc"], shards=1,
                                         receivers=MANY + 1, senders=1, parts=1,
                                         under=("env", "MALLOC_ARENA_MAX=1")) as service:
         service.post("a", body(1, 1))
         before = bytes_of(service.run.pid, "VmHWM")
-        in_threads(*(lambda text=text: told.append(service.post("a", text)[0])
-                     for text in (*[text] * MANY, body(2, 2))))
+        in_threads(*(lambda name=name, text=text: told.append(service.post(name, text)[0])
+                     for name, text in zip(cycle("abc"), (*[text] * MANY, body(2, 2)))))
         more = bytes_of(service.run.pid, "VmHWM") - before
     check("how many are answered", len([status for status in told if status in (200, 429)]), MANY + 1)
     check(f"{more} bytes more at most", more <= MANY * len(text) + AT_A_TIME * most, True)

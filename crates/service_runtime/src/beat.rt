@@ -51,7 +51,7 @@ impl Signals {
             reserve: Reserve::new(alloc),
             gates: Gates::new(alloc)?,
             body_memory: BodyMemory::new(body_memory),
-            large_bodies: LargeBodies::new(),
+            large_bodies: LargeBodies::new(alloc)?,
             tally: Tally::new(),
             last_answers: LastAnswers::new(alloc)?,
         })

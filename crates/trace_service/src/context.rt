@@ -485,7 +485,7 @@ impl<'h, J: Naming, R: Wait + Clock> WorkerContext<'h, J, R> {
             (response_of result) }
     {
         let bytes = body.len();
-        self.signals().large_bodies().enter(self.rt, bytes);
+        self.signals().large_bodies().enter(self.rt, tenant, bytes);
         let now = self.beat.now();
         match self.admitted(now, tenant, body) {
             Ok(body) => {
@@ -532,7 +532,7 @@ impl<'h, J: Naming, R: Wait + Clock> WorkerContext<'h, J, R> {
         ensures hub { self.new.hub ≡ self.old.hub }
         ensures moment { self.new.beat.last ≡ self.old.beat.last }
     {
-        self.signals().large_bodies().leave(self.rt, bytes);
+        self.signals().large_bodies().leave(self.rt, tenant, bytes);
         self.tell_turner(tenant);
     }
 }
