@@ -238,8 +238,11 @@ def refused_in_json(folder):
 
 def in_bytes(folder):
     """A request has no more bytes than it may, its head among them, also behind the leave to send its body. Who sends more is
-    told nothing, with the token or without, and of whoever has no token nothing is held."""
+    told so, with the token or without, and of whoever has no token nothing is held."""
     most = 262_144
+    words = '{"error":"body too large"}'
+    refused = (f"HTTP/1.1 413 Content Too Large\r\nContent-Type: {JSON}\r\nConnection: close\r\n"
+               f"Content-Length: {len(words)}\r\n\r\n{words}").encode()
     file = Path(folder, "token")
     file.write_text(TOKEN + "\n")
 
@@ -256,21 +259,21 @@ def in_bytes(folder):
         right = f"Authorization: Bearer {TOKEN}\r\n"
         head = f"POST /tenants HTTP/1.1\r\nHost: admin\r\n{right}"
         room = most - len(f"{head}Content-Length: {most - 200}\r\n\r\n")
-        for length, status in ((room, b"HTTP/1.1 201"), (room + 1, b"")):
+        for length, reply in ((room, b"HTTP/1.1 201"), (room + 1, refused)):
             document = tenant("new", back_end).encode().ljust(length, b"#")
             message = f"{head}Content-Length: {length}\r\n\r\n".encode() + document
-            check(f"a document of {length} bytes", told(service, message)[:12], status)
+            check(f"a document of {length} bytes", told(service, message)[:len(reply)], reply)
         chunk = b"10000\r\n" + b"#" * 65_536 + b"\r\n"
-        check("chunks without an end", told(service, f"{head}Transfer-Encoding: chunked\r\n\r\n".encode() + chunk * 32), b"")
+        check("chunks without an end", told(service, f"{head}Transfer-Encoding: chunked\r\n\r\n".encode() + chunk * 32), refused)
         check("it came", service.hear(), "added new 1\n")
         room -= len(EXPECT)
-        for length, status in ((room, b"HTTP/1.1 409"), (room + 1, b"")):
+        for length, reply in ((room, b"HTTP/1.1 409"), (room + 1, refused)):
             message = f"{head}{EXPECT}Content-Length: {length}\r\n\r\n".encode()
-            check(f"{length} bytes behind leave", told(service, message, document[:length])[:12], status)
+            check(f"{length} bytes behind leave", told(service, message, document[:length])[:len(reply)], reply)
         check("it was there", service.hear(), "refused add 14\n")
         before = bytes_of(service.run.pid, "VmHWM")
         large = b"POST /tenants HTTP/1.1\r\nHost: admin\r\nContent-Length: 20000000\r\n\r\n" + b"#" * 20_000_000
-        in_threads(*[lambda: check("20 MB without the token", told(service, large), b"")] * 8)
+        in_threads(*[lambda: check("20 MB without the token", told(service, large), refused)] * 8)
         taken = bytes_of(service.run.pid, "VmHWM") - before
         check(f"memory for eight of them: {taken}", taken < 1_048_576, True)
         check("with it", service.ask("/drain", "POST", more=right)[0], 200)

@@ -69,11 +69,7 @@ impl<'h> Entrance<'h> {
             stream.set_read_timeout(patience.rest).ok()?;
             stream.set_write_timeout(patience.rest).ok()?;
         }
-        Some(Client {
-            stream,
-            patience,
-            signals,
-        })
+        Some(Client::new(stream, patience, signals))
     }
 }
 

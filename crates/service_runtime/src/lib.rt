@@ -56,7 +56,7 @@ pub use crate::gates::Gates;
 pub use crate::input::{Line, next_line};
 pub use crate::large_bodies::LargeBodies;
 pub use crate::last_answers::LastAnswers;
-pub use crate::lingering::linger;
+pub use crate::lingering::{linger, refuse_overrun};
 pub use crate::memory::resident_bytes;
 pub use crate::output::write_text;
 pub use crate::pace::{Paces, ShardPace};

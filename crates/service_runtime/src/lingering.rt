@@ -1,11 +1,15 @@
 //! The end of a connection whose client may still be sending.
 
-ghost use Rattle.std.specs.Prelude.{◌≤◌, ℕ, List, [], length};
+ghost use Rattle.std.specs.Prelude.{◌≡◌, ◌≤◌, ℕ, List, [], false, length};
+ghost use Rattle.http_edge.specs.Reply.{refusal_text};
+ghost use Rattle.http_edge.specs.declared.message.RefusalForm.TheVariants as forms;
 ghost use Rattle.http_line.specs.Line.{Moves};
 ghost use Rattle.service_runtime.specs.Visit.{most_read_off};
 
+use crate::visit::Client;
 use export_edge::Beat;
 use http_line::{Line, StreamLine};
+use std::io::Write;
 use std::net::{Shutdown, TcpStream};
 use std::time::Duration;
 
@@ -28,6 +32,24 @@ pub fn linger<B: Beat>(stream: &TcpStream, beat: &mut B) {
     if stream.shutdown(Shutdown::Write).is_ok() && stream.set_read_timeout(Some(silence)).is_ok() {
         read_off(&mut StreamLine::new(stream), beat);
     }
+}
+
+/// Where a connection failed since a request had more bytes than it may, its client is told so, and it ends as behind
+/// any reply that closes it. A client that doesn't take the reply isn't waited for.
+pub fn refuse_overrun<B: Beat>(client: &Client<'_>, beat: &mut B) {
+    let mut stream = &client.stream;
+    if client.has_overrun() && stream.write_all(too_large()).is_ok() {
+        linger(stream, beat);
+    }
+}
+
+/// What such a client is told, as who sends a longer body than is taken anywhere. What its method was isn't known any
+/// more, so a reply to `HEAD` has its content too.
+fn too_large() -> &'static [u8]
+    ensures { result.now ≡ refusal_text forms.Json false 413 }
+{
+    b"HTTP/1.1 413 Content Too Large\r\nContent-Type: application/json\r\nConnection: close\r\n\
+Content-Length: 26\r\n\r\n{\"error\":\"body too large\"}"
 }
 
 /// Reads what comes and lets it go, until the peer has closed its side too, or one of the bounds is met.

@@ -7,6 +7,7 @@ use crate::beat::Signals;
 use std::io;
 use std::io::{ErrorKind, Read, Write};
 use std::net::TcpStream;
+use std::sync::atomic::{AtomicBool, Ordering};
 use std::time::{Clock, Duration, Instant};
 
 /// How long is waited for a client, and for how many bytes. None is for ever, and for any number; no limit is 0.
@@ -26,6 +27,25 @@ pub struct Client<'h> {
     pub stream: TcpStream,
     pub patience: Patience,
     pub signals: &'h Signals,
+    // Whether a request of its had more bytes than it may.
+    has_overrun: AtomicBool,
+}
+
+impl<'h> Client<'h> {
+    /// Of whom nothing was read.
+    pub(crate) fn new(stream: TcpStream, patience: Patience, signals: &'h Signals) -> Client<'h> {
+        Client {
+            stream,
+            patience,
+            signals,
+            has_overrun: AtomicBool::new(false),
+        }
+    }
+
+    /// Whether a request of its had more bytes than it may.
+    pub(crate) fn has_overrun(&self) -> bool {
+        self.has_overrun.load(Ordering::SeqCst)
+    }
 }
 
 /// What an answer that is no reply begins with, as the leave to send a body (RFC 9110, 15.2).
@@ -41,6 +61,7 @@ pub struct Visit<'v, R> {
     stream: &'v TcpStream,
     patience: Patience,
     signals: &'v Signals,
+    has_overrun: &'v AtomicBool,
     // Whether some of a request was read that has no reply yet.
     is_asked: bool,
     // Since when that request takes time, where requests are bounded: since some of it was read first, or since its
@@ -60,6 +81,7 @@ impl<'v, R: Clock> Visit<'v, R> {
             stream: &client.stream,
             patience: client.patience,
             signals: client.signals,
+            has_overrun: &client.has_overrun,
             is_asked: false,
             began: None,
             is_cut: false,
@@ -139,6 +161,7 @@ impl<R: Clock> Read for Visit<'_, R> {
             self.begin();
         }
         if !self.note_read(count as u64) {
+            self.has_overrun.store(true, Ordering::SeqCst);
             return Err(io::Error::from(ErrorKind::FileTooLarge));
         }
         Ok(count)

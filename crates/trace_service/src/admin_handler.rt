@@ -34,7 +34,7 @@ use http_line::StreamLine;
 use otlp_front::path;
 use service_runtime::notices::{notice, other_method, shown, unknown};
 use service_runtime::{
-    AdminPort, Client, Entrance, Signals, Visit, is_let_in, linger, resident_bytes,
+    AdminPort, Client, Entrance, Signals, Visit, is_let_in, linger, refuse_overrun, resident_bytes,
 };
 use shared_hub::HubFault;
 use std::alloc::{AllocError, Global};
@@ -128,7 +128,7 @@ impl<'c, 'h, J: Naming, R: Wait + Clock> AdminHandler<'c, 'h, J, R> {
         let mut line = StreamLine::new(Visit::new(self.context.rt(), client));
         match serve(rt, self.context.alloc(), &mut line, self, buffer) {
             Ok(()) | Err(EdgeFault::OutOfMemory) => linger(&client.stream, &mut beat),
-            Err(_) => {}
+            Err(_) => refuse_overrun(client, &mut beat),
         }
     }
 
