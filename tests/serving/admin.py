@@ -163,9 +163,9 @@ def without_token(folder):
         settings = Path(folder, "settings.toml")
         settings.write_text(talk.globals_of() + tenant("a", back_end))
         for options, status, words in (
-                (("--admin", "0.0.0.0:0"), 1, b"--admin-token-file"), (("--admin", "no address"), 1, b""),
+                (("--admin", "0.0.0.0:0"), 1, b"--admin-token-file"), (("--admin", "no address"), 1, b"\nno address: "),
                 (("--admin", "127.0.0.1:0", "--admin-token-file", str(short)), 1, b"16 bytes"),
-                (("--admin", "127.0.0.1:0", "--admin-token-file", str(none)), 1, b""),
+                (("--admin", "127.0.0.1:0", "--admin-token-file", str(none)), 1, f"\n{none}: No such file".encode()),
                 (("--admin-token-file", str(short)), 2, b"usage"), (("--admin",), 2, b"usage"),
                 (("--admin", "127.0.0.1:0", "--admin", "127.0.0.1:0"), 2, b"usage")):
             run = subprocess.run([talk.program, "serve", str(settings), *options], stdin=subprocess.DEVNULL,

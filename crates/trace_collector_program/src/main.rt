@@ -4,8 +4,8 @@
 //! of the settings in that file. `trace_collector serve SETTINGS` receives bodies and sends traces under the settings
 //! in that file, until standard input ends. Statuses: 0 done, and settings that are good; 1 a fault of the settings,
 //! the script, the input or the output; 2 wrong usage; 3 no memory. A fault is told in one line on standard error, but
-//! that of settings that are checked, which is on standard output already; `check`, and `serve` with `--verbose`, tell
-//! behind it which file, address, input or output it is of, and why.
+//! that of settings that are checked, which is on standard output already; `check`, and `serve` with `--verbose` or
+//! `--admin`, tell behind it which file, address, input or output it is of, and why.
 //!
 //! It stands on `trace_collector`, whose `replay` promises what is written, on `settings_check`, whose `check` does so
 //! too, on `trace_service`, and on `service_runtime` for what a service is given from outside.

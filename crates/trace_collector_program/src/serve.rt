@@ -114,7 +114,7 @@ where
     R: Files<File = File> + Input + Print + Eprint + AllocGlobal + Clock + Threads + Wait + Sync,
     R: RandomSource + Net<Listener = TcpListener, Stream = TcpStream> + Documents,
 {
-    if options.verbose {
+    if options.verbose || options.admin.is_some() {
         reason.tell();
     }
     let settings = settings_of_file(rt, path, reason)?;
