@@ -43,8 +43,7 @@ struct ResourceOrigin {
     bits: ResourceBits,
 }
 
-/// These bytes with their digest, or the last text where that has the same. They are copied: who keeps them would keep
-/// the whole body otherwise, and a resource comes in body after body.
+/// These bytes with their digest, or the last text where that has the same.
 #[tactic(auto, using(otlp_parts::proofs::Same::the_same_text))]
 fn shared_text(
     alloc: Global,
@@ -58,7 +57,7 @@ fn shared_text(
             return last.shared();
         }
     }
-    SharedBytes::of(alloc, TextSlice::copy_from_slice(alloc, bytes.as_slice())?)
+    SharedBytes::of(alloc, bytes.shared()?)
 }
 
 /// The same text with its digest, where there is one.

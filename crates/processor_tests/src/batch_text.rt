@@ -33,9 +33,9 @@ fn key(
 ) -> Result<Option<u32>, AllocError> {
     match name {
         "-" => Ok(None),
-        "others" => Ok(Some(pool.hold(9, text_of(alloc, "one")?)?)),
+        "others" => Ok(Some(pool.hold(9, &text_of(alloc, "one")?)?)),
         "gone" => Ok(Some(1000)),
-        _ => Ok(Some(pool.hold(owner, text_of(alloc, name)?)?)),
+        _ => Ok(Some(pool.hold(owner, &text_of(alloc, name)?)?)),
     }
 }
 

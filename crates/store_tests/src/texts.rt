@@ -1,6 +1,7 @@
 //! Texts of two tenants, 7 and 8, in one pool.
 
 use crate::story::{Step, one, step_of};
+use bytes::Bytes;
 use std::alloc::{AllocError, Global};
 use std::process::Abort;
 use std::test::Fail;
@@ -80,7 +81,7 @@ fn told(pool: &TextPool, tenant: u32) -> [u32; 4] {
 
 fn given(alloc: Global, pool: &mut TextPool, step: &Step<'_>) -> Result<u32, AllocError> {
     match step.call {
-        "hold" => pool.hold(step.tenant, text_of(alloc, step.number)?),
+        "hold" => pool.hold(step.tenant, &text_of(alloc, step.number)?),
         "again" => pool.hold_again(step.tenant, step.number),
         "release" => {
             pool.release(step.tenant, step.number);
@@ -146,6 +147,20 @@ same 7 3 2 = 0
 same 8 3 2 = 0
 same 8 3 1 = 1
 same 7 100 200 = 1";
+
+// The text is all of a body. A pool that kept it would hold the body.
+#[test]
+fn no_body_is_held_by_the_pool(rt: HostRuntime) -> Result<(), Fail> {
+    let body = Bytes::copy_from_slice(rt.alloc(), FIRST)?;
+    let text = SharedBytes::of(rt.alloc(), TextSlice::of(rt.alloc(), body.clone()?)?)?;
+    let mut pool = TextPool::new(rt.alloc());
+    let key = pool.hold(7, &text)?;
+    assert!(rt; !body.is_unique());
+    drop(text);
+    assert!(rt; body.is_unique());
+    assert!(rt; at(&pool, 7, key) == 1);
+    Ok(())
+}
 
 // Equal texts of two tenants are apart. A key goes to another text after its last use. Each run with one allocation
 // refused has to end well, too.

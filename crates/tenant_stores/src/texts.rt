@@ -62,8 +62,7 @@ fn hold_one(
     match wanted {
         TextRequest::Nothing => Ok(None),
         TextRequest::New(text) => {
-            let copy = text.shared()?;
-            let key = texts.hold(tenant, copy)?;
+            let key = texts.hold(tenant, text)?;
             Ok(Some(key))
         }
         TextRequest::Again(key) => {

@@ -1,9 +1,9 @@
 //! Texts that many spans share, each kept once for a tenant.
 //!
 //! A resource's text stands in a body once and belongs to all its spans, and the bodies of one sender have the same
-//! resource again and again. A [`TextPool`] keeps such a text once under a key, and counts for how many it is kept:
-//! [`TextPool::hold`] answers the key of a text, and [`TextPool::release`] gives one use back. Whoever keeps a key in
-//! the place of a text finds by [`TextPool::is_same`] whether two texts are one. That looks at the keys, then at
+//! resource again and again. A [`TextPool`] keeps a copy of such a text once under a key, and counts for how many it is
+//! kept: [`TextPool::hold`] answers the key of a text, and [`TextPool::release`] gives one use back. Whoever keeps a
+//! key in the place of a text finds by [`TextPool::is_same`] whether two texts are one. That looks at the keys, then at
 //! digests, and at bytes only where both leave it open. So no length of a text makes it dear, no order in which texts
 //! come does, and nothing is asked of the caller.
 //!

@@ -26,6 +26,7 @@ pub struct CountedText {
 /// it was held.
 #[derive(Drop)]
 pub struct TextPool {
+    alloc: Global,
     texts: Slab<CountedText>,
     // The digest of each text, its owner and its key. A text is looked at before its key is taken from here.
     keys: BTreeSet<(u64, u32, u32)>,
@@ -46,24 +47,25 @@ impl TextPool {
         ensures { (tenant : ℕ) → part tenant result ≡ λ _. None }
     {
         TextPool {
+            alloc,
             texts: Slab::new(alloc),
             keys: BTreeSet::new(alloc),
         }
     }
 
-    /// One use more of a text of the tenant's, which is kept from now on if it wasn't. The answer is its key.
-    pub fn hold(&mut self, tenant: u32, text: SharedBytes) -> Result<u32, AllocError>
-        ensures own_part { IfOk result (λ key. part tenant self.new ≡
-            with_text key (held tenant text (part tenant self.old key)) (part tenant self.old)) }
+    /// One use more of a text of the tenant's, of which a copy is kept from now on if none was. The answer is its key.
+    pub fn hold(&mut self, tenant: u32, text: &SharedBytes) -> Result<u32, AllocError>
+        ensures own_part { IfOk result (λ key. part tenant self.new ≡ with_text key
+            (held tenant text.now (part tenant self.old key)) (part tenant self.old)) }
         ensures same { IfOk result (λ key. IfSome (part tenant self.old key)
-            (λ kept. kept.text ≡ text)) }
+            (λ kept. kept.text ≡ text.now)) }
 
         // Other tenants' parts stay as they were, and where memory is refused this tenant's too.
         ensures others_unchanged { (other : ℕ) → other ≢ tenant
             → part other self.new ≡ part other self.old }
         ensures on_refusal { OnErr result (part tenant self.new ≡ part tenant self.old) }
     {
-        let Some((key, uses)) = self.known(tenant, &text) else {
+        let Some((key, uses)) = self.known(tenant, text) else {
             return self.put(tenant, text);
         };
         self.set_uses(key, uses + 1);
@@ -94,7 +96,7 @@ impl TextPool {
         };
         if kept.uses == u64::MAX {
             let text = kept.text.shared()?;
-            return self.hold(tenant, text);
+            return self.hold(tenant, &text);
         }
         let uses = kept.uses + 1;
         self.set_uses(key, uses);
@@ -145,11 +147,12 @@ impl TextPool {
         }
     }
 
-    /// A text comes under a key that was vacant. It is refused where memory is, or where that key is 2^32 or more.
-    fn put(&mut self, tenant: u32, text: SharedBytes) -> Result<u32, AllocError>
+    /// A copy of a text comes under a key that was vacant: the text may be a slice of a body, which would stay for it.
+    /// It is refused where memory is, or where that key is 2^32 or more.
+    fn put(&mut self, tenant: u32, text: &SharedBytes) -> Result<u32, AllocError>
         ensures vacant { IfOk result (λ key. part tenant self.old key ≡ None) }
         ensures own_part { IfOk result (λ key. part tenant self.new ≡
-            with_text key (held tenant text None) (part tenant self.old)) }
+            with_text key (held tenant text.now None) (part tenant self.old)) }
         ensures others_unchanged { (other : ℕ) → other ≢ tenant
             → part other self.new ≡ part other self.old }
         ensures on_refusal { OnErr result (part tenant self.new ≡ part tenant self.old) }
@@ -157,11 +160,12 @@ impl TextPool {
         let Ok(key) = u32::try_from(self.texts.vacant_key()) else {
             return Err(AllocError);
         };
+        let copy = text.copied(self.alloc)?;
         self.texts.reserve(1)?;
-        self.keys.insert((text.digest(), tenant, key))?;
+        self.keys.insert((copy.digest(), tenant, key))?;
         self.texts.insert_reserved(CountedText {
             owner: tenant,
-            text,
+            text: copy,
             uses: 1,
         });
         Ok(key)

@@ -51,13 +51,15 @@ impl SharedBytes {
         ensures { IfOk result (λ shared. shared ≡ text) }
     {
         let digest = digest_of(text.as_slice());
-        let text = Arc::new(
-            alloc,
-            DigestedText {
-                bytes: text,
-                digest,
-            },
-        )?;
+        SharedBytes::with_digest(alloc, text, digest)
+    }
+
+    /// These bytes, whose digest is known.
+    fn with_digest(alloc: Global, bytes: TextSlice, digest: u64) -> Result<SharedBytes, AllocError>
+        requires { digest ≡ text_digest bytes }
+        ensures { IfOk result (λ shared. shared ≡ bytes) }
+    {
+        let text = Arc::new(alloc, DigestedText { bytes, digest })?;
         Ok(SharedBytes { text })
     }
 
@@ -68,6 +70,14 @@ impl SharedBytes {
     {
         let text = self.text.clone()?;
         Ok(SharedBytes { text })
+    }
+
+    /// The same text in memory of its own, so that no block stays for it. No digest is made.
+    pub(crate) fn copied(&self, alloc: Global) -> Result<SharedBytes, AllocError>
+        ensures { IfOk result (λ text. text ≡ self.now) }
+    {
+        let bytes = TextSlice::copy_from_slice(alloc, self.text.bytes.as_slice())?;
+        SharedBytes::with_digest(alloc, bytes, self.text.digest)
     }
 
     /// The bytes.

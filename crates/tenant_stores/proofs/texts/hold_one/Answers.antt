@@ -1,4 +1,4 @@
-use Rattle.std.proofs.Common.{◌∙◌, ap, sym, subst, ℕ, List, Some}
+use Rattle.std.proofs.Common.{◌∙◌, ap, sym, subst}
 use Rattle.text_pool.specs.Part.{part}
 use Rattle.tenant_stores.specs.HeldTexts.{IsKnown, wanted_text}
 use Rattle.tenant_stores.specs.declared.texts.TextRequest.{TextRequest}
@@ -13,12 +13,12 @@ returns-in-Nothing-clause-text c = λ kept known. sym (ap (λ (w : TextRequest).
 
 pub returns-in_ok-key-in-New-clause-keys_held : goal.returns-in_ok-key-in-New-clause-keys_held
 returns-in_ok-key-in-New-clause-keys_held c = λ kept known.
-    (new_is_held c.args.tenant c.in_ok-key-in-New.key c.in_ok-copy-in-New.copy (part c.args.tenant c.args.texts.now) (part c.args.tenant c.hold.new.self) kept c.in_ok-key-in-New.ensures.own_part c.in_ok-key-in-New.ensures.same).0
+    (new_is_held c.args.tenant c.in_ok-key-in-New.key c.in-New.text.now (part c.args.tenant c.args.texts.now) (part c.args.tenant c.hold.new.self) kept c.in_ok-key-in-New.ensures.own_part c.in_ok-key-in-New.ensures.same).0
 
 pub returns-in_ok-key-in-New-clause-text : goal.returns-in_ok-key-in-New-clause-text
 returns-in_ok-key-in-New-clause-text c = λ kept known.
-    (new_is_held c.args.tenant c.in_ok-key-in-New.key c.in_ok-copy-in-New.copy (part c.args.tenant c.args.texts.now) (part c.args.tenant c.hold.new.self) kept c.in_ok-key-in-New.ensures.own_part c.in_ok-key-in-New.ensures.same).1
-    ∙ (ap (λ (t : List ℕ). Some t) c.in_ok-copy-in-New.ensures ∙ sym (ap (λ (w : TextRequest). wanted_text w (part c.args.tenant c.args.texts.now)) c.in-New.is))
+    (new_is_held c.args.tenant c.in_ok-key-in-New.key c.in-New.text.now (part c.args.tenant c.args.texts.now) (part c.args.tenant c.hold.new.self) kept c.in_ok-key-in-New.ensures.own_part c.in_ok-key-in-New.ensures.same).1
+    ∙ sym (ap (λ (w : TextRequest). wanted_text w (part c.args.tenant c.args.texts.now)) c.in-New.is)
 
 pub returns-in_ok-again-in-Again-clause-keys_held : goal.returns-in_ok-again-in-Again-clause-keys_held
 returns-in_ok-again-in-Again-clause-keys_held c = λ kept known.
