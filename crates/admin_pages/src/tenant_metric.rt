@@ -44,7 +44,7 @@ pub enum TenantMetric {
     NotSampled,
     /// Spans whose trace was pushed out before its decision.
     TooEarly,
-    /// Spans whose batch met a full queue.
+    /// Spans whose batch met a full queue, or had more bytes than a batch may have.
     QueueFull,
     /// Spans whose batch was tried for too long.
     RetryExhausted,
@@ -225,7 +225,7 @@ impl TenantMetric {
             TenantMetric::Exported => "Spans that the back end took",
             TenantMetric::NotSampled => "Spans of traces that no policy kept",
             TenantMetric::TooEarly => "Spans of traces that were pushed out before their decision",
-            TenantMetric::QueueFull => "Spans in batches that met a full queue",
+            TenantMetric::QueueFull => "Spans in batches that met a full queue or were too large",
             TenantMetric::RetryExhausted => "Spans in batches that were tried for too long",
             TenantMetric::BackEndRefused => "Spans in batches that the back end refused for good",
             TenantMetric::BackEndRejected =>

@@ -20,7 +20,7 @@ pub enum Place {
     NotSampled,
     /// Its trace left before the decision, to make room for others.
     TooEarly,
-    /// Its batch met a full queue.
+    /// Its batch met a full queue, or had more bytes than a batch may have.
     QueueFull,
     /// Its batch was tried for too long.
     RetryExhausted,
@@ -47,7 +47,7 @@ pub struct Places {
     pub not_sampled: u64,
     /// Spans whose trace left before the decision, to make room for others.
     pub too_early: u64,
-    /// Spans whose batch met a full queue.
+    /// Spans whose batch met a full queue, or had more bytes than a batch may have.
     pub queue_full: u64,
     /// Spans whose batch was tried for too long.
     pub retry_exhausted: u64,
