@@ -1,4 +1,4 @@
-use Rattle.std.proofs.Common.{◌≡◌, ◌∙◌, ◌+◌, List, [], length, sym, ap, subst, refl, arith, ℕ, Option, Some}
+use Rattle.std.proofs.Common.{◌≡◌, ◌∙◌, ◌+◌, List, [], length, sym, ap, subst, refl, arith, rules, ℕ, Option, Some}
 use Rattle.span_batcher.specs.Batches.{Batch}
 use Rattle.span_batcher.specs.State.{next_due}
 use Rattle.tenant_stores.specs.Counts.{count}
@@ -42,8 +42,8 @@ returns-in_err-offer-clause-invariant c =
     let same : mid ≡ own = λ i. record own { sender = c.in_err-offer.ensures.on_refusal i; ledger = c.in_err-offer.ensures.ledger_on_refusal i } in
     subst (λ (x : Pipeline). WrittenInvariant x c.args.stores.now) (sym same) c.requires.invariant
 
-pub returns-clause-on_success : goal.returns-clause-on_success
-returns-clause-on_success c =
+pub returns : goal.returns
+returns c =
     let own = c.args.self.now in
     let p = part own.tenant c.args.stores.now in
     let q = part own.tenant c.flush.new.self in
@@ -61,30 +61,13 @@ returns-clause-on_success c =
     let shows = c.flush.ensures.shows (counts_in own) own.batcher.spans [] [] [] all c.requires.invariant.sound (λ key. omega arith) in
     let ran = flush_all own p q c.requires.invariant mid due (sent_at due own.batcher.spans p) c.fire-fired.new.self due_is c.requires.first (c.requires.fits due due_is) refl sends c.fire-fired.ensures.pending sound shows in
     let s = written_state_in own c.args.stores.now in
-    ran.state ∙ ap (λ (o : Option ℕ). flushed o s) (sym due_is)
-
-pub returns-clause-invariant : goal.returns-clause-invariant
-returns-clause-invariant c =
-    let own = c.args.self.now in
-    let p = part own.tenant c.args.stores.now in
-    let q = part own.tenant c.flush.new.self in
-    let mid : Pipeline = record own { sender = c.offer.new.sender; ledger = c.offer.new.ledger } in
-    let due = c.in-Some.due in
-    let due_is : next_due own.batcher ≡ Some due = sym c.in-Some.ensures in
-    let sends : Sends (queued (sent_at due own.batcher.spans p)) own mid = record {
-      rules = λ s sender ledger. ap (λ (ks : List ℕ). queued (sent_at due ks p) s) (sym c.spans.ensures) ∙ c.in_ok-offer.ensures.on_success s sender ledger;
-      same = refl;
-    } in
-    let made = c.fire-fired.ensures.batch due due_is in
-    let gone : c.spans-2.result.now ≡ own.batcher.spans = c.spans-2.ensures ∙ ap (λ (b : Batch ℕ). b.spans) made in
-    let all : (key : ℕ) → count key c.spans-2.result.now + count key [] ≡ count key own.batcher.spans = λ key. let e = ap (count key) gone in omega (arith, e) in
-    let sound = c.flush.ensures.store_invariant (counts_in own) own.batcher.spans [] [] all c.requires.invariant.sound in
-    let shows = c.flush.ensures.shows (counts_in own) own.batcher.spans [] [] [] all c.requires.invariant.sound (λ key. omega arith) in
-    let ran = flush_all own p q c.requires.invariant mid due (sent_at due own.batcher.spans p) c.fire-fired.new.self due_is c.requires.first (c.requires.fits due due_is) refl sends c.fire-fired.ensures.pending sound shows in
-    ran.held
-
-pub returns-clause-others_unchanged : goal.returns-clause-others_unchanged
-returns-clause-others_unchanged c = λ other ne. c.flush.ensures.others_unchanged other ne
-
-pub returns-clause-clock : goal.returns-clause-clock
-returns-clause-clock c = λ moment le all. all c.in-Some.due (sym c.in-Some.ensures)
+    record {
+      on_success = ran.state ∙ ap (λ (o : Option ℕ). flushed o s) (sym due_is);
+      invariant = ran.held;
+      others_unchanged = λ other ne. c.flush.ensures.others_unchanged other ne;
+      on_refusal = search rules;
+      tenant = search rules;
+      section = search rules;
+      swept = search rules;
+      clock = λ moment le all. all due due_is;
+    }
