@@ -70,9 +70,9 @@ SHAPES = {
     "the same, with a scope and a schema": (piece(2, EMPTY + SPAN + URL), in_resource, 8),
     "spans": (SPAN, in_scope, 8),
     "spans that are written anew": (piece(2, IDS + piece(3, b"")), in_scope, 8),
-    "resource spans of a span, each of another resource": (of_another_resource, alone, 9),
-    "resource spans of a span, each of another resource and scope": (of_another_scope, alone, 12),
-    "the same, each text another": (of_four_other_texts, alone, 13),
+    "resource spans of a span, each of another resource": (of_another_resource, alone, 8),
+    "resource spans of a span, each of another resource and scope": (of_another_scope, alone, 8),
+    "the same, each text another": (of_four_other_texts, alone, 8),
 }
 
 
