@@ -17,8 +17,8 @@ const SHARE: usize = ALL / 2;
 const GROUPS: usize = 256;
 
 /// Room for large bodies while they are made ready and posted: each takes many times its bytes meanwhile. A body waits
-/// for its group's share before it stands in line for the room of all, and one of a group at a time stands there. So
-/// however many connections a tenant has, another's body waits for one of its bodies beside those that have room.
+/// for its group's share before it stands in line for the room of all. So however many connections a tenant has, one of
+/// its bodies at a time stands there with others'.
 #[derive(Drop)]
 pub struct LargeBodies {
     shares: Vec<Room>,
@@ -72,7 +72,7 @@ impl LargeBodies {
     }
 }
 
-/// Room for so many bytes, which who comes first gets first.
+/// Room for so many bytes, and a line for it.
 #[derive(Drop)]
 struct Room {
     // Who has it is the next that gets room, so that the longest bodies aren't passed by for good.
