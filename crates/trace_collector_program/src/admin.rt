@@ -141,11 +141,10 @@ fn without_end(text: &[u8]) -> &[u8] {
     text.strip_suffix(b"\r".as_slice()).unwrap_or(text)
 }
 
-/// The fault of an option's value. It is told also to who isn't told of other faults.
+/// The fault of an option's value, whose reason is kept.
 fn told(reason: &mut Reason, what: &str, why: &str) -> ProgramFault
     ensures { IsOutside result }
 {
     reason.put(what, &why);
-    reason.tell();
     ProgramFault::Replay(ReplayFault::Line)
 }
