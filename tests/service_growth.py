@@ -155,7 +155,7 @@ SHAPES = {
     "fields of a head": (many_fields, 29, RECEIVER, no_job),
     "connections": (connections, 200, RECEIVER, no_job),
     "posts of a connection": (one_connection, 200, RECEIVER, no_job),
-    "large bodies": (large_bodies, 4_000, RECEIVER, no_job),
+    "large bodies": (large_bodies, 8_000, RECEIVER, no_job),
     "tenants": (many_tenants, 300, RECEIVER, no_job),
     "jobs": (many_jobs, 200, SENDER, for_each),
     "small chunks of an answer": (one_job, 10_000, SENDER, a_job, in_chunks),
