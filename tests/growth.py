@@ -118,9 +118,29 @@ def attributes_of_two_members(n):
 
 
 def attributes_of_two_values(n):
-    """The same with two values each, for which the whole span is read and written."""
+    """The same with two values each, of which one is made first."""
     text = piece(9, piece(1, b"k") + piece(2, SOME_VALUE) * 2)
     return tenant(), post(0, request([ids(1, 1) + text * n])) + DUE, "job a 1 "
+
+
+def attributes_of_a_resource(n):
+    """A resource of n attributes whose count stands before them, so that it is put anew."""
+    resource = number_field(2, 1) + attribute(1, "k", "v") * n
+    body = piece(1, piece(1, resource) + piece(2, piece(2, ids(1, 1))))
+    return tenant(), post(0, body) + DUE, "job a 1 "
+
+
+def events_of_two_counts(n):
+    """One span of n events that have a count twice, so that each is put anew."""
+    return tenant(), post(0, request([ids(1, 1) + piece(11, number_field(4, 1) * 2) * n])) + DUE, "job a 1 "
+
+
+def values_at_each_level(n):
+    """One span of n attributes, each of lists in one another, down to 28 of them, in which each attribute has two values."""
+    value = b""
+    for _ in range(28):
+        value = piece(6, piece(1, piece(1, b"k") + piece(2, value) + piece(2, b"")))
+    return tenant(), post(0, request([ids(1, 1) + piece(9, piece(1, b"k") + piece(2, value)) * n])) + DUE, "job a 1 "
 
 
 def spans_reversed(n):
@@ -292,6 +312,9 @@ SHAPES = {
     "members of a value": (members_of_value, 50_000),
     "attributes of two members": (attributes_of_two_members, 12_500),
     "attributes of two values": (attributes_of_two_values, 12_500),
+    "attributes of a resource put anew": (attributes_of_a_resource, 12_500),
+    "events of two counts": (events_of_two_counts, 12_500),
+    "two values at each level": (values_at_each_level, 250),
     "spans in reverse order": (spans_reversed, 4_000),
     "spans with defaults": (spans_with_defaults, 8_000),
     "spans with two names": (spans_with_two_names, 4_000),

@@ -13,9 +13,11 @@ with a count of 0 besides (count.pb), with the name at the end (last.pb), in rev
 name twice (twice.pb), with the end's time twice (time.pb), or the status, empty (status.pb), with a message in one and
 a code in the other (apart.pb) or with both in both (statuses.pb), with each attribute's value before its key (keys.pb)
 or the lengths of its key and its text in four bytes (texts.pb), with one attribute more, whose value has two members
-(members.pb), with two in the value of each (pairs.pb), and with a field that isn't known before each key (unknown.pb)
-or before the member of each value (within.pb). Each event, link and status of the stored body is written in reverse
-order in events.pb."""
+(members.pb), with two in the value of each (pairs.pb), with a bool before the text in the value of each (bools.pb) or
+an array (arrays.pb), with one attribute more that has two values (couple.pb), with two values in each (couples.pb), and
+with a field that isn't known before each key (unknown.pb) or before the member of each value (within.pb). Each event,
+link and status of the stored body is written in reverse order in events.pb. Each span stands under a resource of its
+own, whose count stands before its attributes, in resources.pb."""
 import pathlib
 import struct
 import sys
@@ -187,6 +189,25 @@ def two_members(content):
     return piece(1, key) + piece(2, value + varint(3 << 3) + varint(5))
 
 
+def beginning_with(member):
+    """What puts this member before the text that is an attribute's value."""
+    def attribute_of(content):
+        (_, key, _), (_, value, _) = fields(content)
+        return piece(1, key) + piece(2, member + value)
+
+    return attribute_of
+
+
+def two_values(content):
+    """An attribute with another value behind its own."""
+    return content + piece(2, piece(1, b"other"))
+
+
+def with_couple(content):
+    """A span with an attribute more that has two values."""
+    return in_order([(9, piece(9, piece(1, b"k") + 2 * piece(2, piece(1, b"v"))))], content)
+
+
 def some(size, make):
     found, length = [], 0
     while length < size:
@@ -265,6 +286,8 @@ def with_members(content):
 
 MESSAGE = piece(2, b"deadline exceeded")
 CODE = varint(3 << 3) + varint(2)
+BOOL = varint(2 << 3) + varint(1)
+ARRAY = piece(5, piece(1, piece(1, b"v")))
 NO_COUNT = (14, varint(14 << 3) + varint(0))
 ORDERS = {
     "ordered": lambda fields: fields,
@@ -285,6 +308,14 @@ def ordered(order):
     spans = (b"".join(text for _, text in order(full_fields(index))) for index in range(100))
     resource = piece(1, text_attribute("service.name", "orders"))
     return piece(1, piece(1, resource) + piece(2, b"".join(piece(2, text) for text in spans)))
+
+
+def of_own_resources():
+    """A hundred such spans, each under a resource of its own, with a count before its attributes."""
+    attributes = b"".join(piece(1, text_attribute(key, value)) for key, value in TEXTS)
+    spans = (b"".join(text for _, text in full_fields(index)) for index in range(100))
+    return b"".join(piece(1, piece(1, varint(2 << 3) + varint(index + 1) + attributes) + piece(2, piece(2, text)))
+                    for index, text in enumerate(spans))
 
 
 def main():
@@ -308,6 +339,11 @@ def main():
                "unknown": changed(bodies["ordered"], each_inside({9}, unknown_first)),
                "within": changed(bodies["ordered"], each_inside({9}, unknown_in_value)),
                "pairs": changed(bodies["ordered"], each_inside({9}, two_members)),
+              "bools": changed(bodies["ordered"], each_inside({9}, beginning_with(BOOL))),
+              "arrays": changed(bodies["ordered"], each_inside({9}, beginning_with(ARRAY))),
+              "couple": changed(bodies["ordered"], with_couple),
+              "couples": changed(bodies["ordered"], each_inside({9}, two_values)),
+              "resources": of_own_resources(),
                "events": changed(stored, each_inside({11, 13, 15}, reversed_fields))}
     for name, body in bodies.items():
         (folder / f"{name}.pb").write_bytes(body)

@@ -24,6 +24,11 @@ IDS = piece(1, b"\1" * 16) + piece(2, b"\2" * 8)
 SPAN = piece(2, IDS)
 EMPTY = piece(1, b"")
 URL = piece(3, b"u")
+# A count of 1 in two bytes, of a resource and of a scope, so that neither is canonical.
+LONG_COUNT, LONG_COUNT_OF_SCOPE = b"\x10\x81\x00", b"\x20\x81\x00"
+# Two values of an attribute; and a bool of 2, for which what it stands in is read as a message.
+TWO_VALUES = piece(1, b"k") + 2 * piece(2, piece(1, b"v"))
+BOOL_OF_TWO = piece(1, b"k") + piece(2, number_field(2, 2))
 
 
 def alone(text):
@@ -36,6 +41,32 @@ def in_resource(text):
 
 def in_scope(text):
     return piece(1, piece(2, text))
+
+
+def under(more):
+    """What puts a span under a resource of a text's attributes, and of this behind them."""
+    return lambda text: piece(1, piece(1, text + more) + piece(2, SPAN))
+
+
+def in_long_scope(text):
+    """A span in a scope of these attributes, whose count isn't as short as it can be."""
+    return piece(1, piece(2, piece(1, text + LONG_COUNT_OF_SCOPE) + SPAN))
+
+
+def in_span(before=b"", number=None, behind=b""):
+    """What puts a text into a span: behind these fields, or with others behind it in one of this number."""
+    def span(text):
+        return in_scope(piece(2, IDS + before + (piece(number, text + behind) if number else text)))
+
+    return span
+
+
+def lists(number, levels=19):
+    """An attribute, in a field of this number, of so many lists of one in one another."""
+    value = b""
+    for _ in range(levels):
+        value = piece(6, piece(1, piece(2, value)))
+    return piece(number, piece(2, value))
 
 
 def of_another_resource(number):
@@ -73,6 +104,17 @@ SHAPES = {
     "resource spans of a span, each of another resource": (of_another_resource, alone, 8),
     "resource spans of a span, each of another resource and scope": (of_another_scope, alone, 8),
     "the same, each text another": (of_four_other_texts, alone, 8),
+    "attributes of a resource that isn't canonical": (EMPTY, under(LONG_COUNT), 5),
+    "lists in lists of a resource that isn't canonical": (lists(1), under(LONG_COUNT), 5),
+    "attributes of a scope that isn't canonical": (piece(3, b""), in_long_scope, 5),
+    "attributes of an event whose count stands twice": (piece(3, b""), in_span(number=11, behind=2 * number_field(4, 1)), 5),
+    "attributes of a link whose count stands twice": (piece(4, b""), in_span(number=13, behind=2 * number_field(5, 1)), 5),
+    "attributes of two values": (piece(9, TWO_VALUES), in_span(), 5),
+    "attributes beside two of two values": (piece(9, b""), in_span(before=2 * piece(9, TWO_VALUES)), 5),
+    "lists in lists beside two of two values": (lists(9), in_span(before=2 * piece(9, TWO_VALUES)), 5),
+    "attributes of a resource that is read": (EMPTY, under(piece(1, BOOL_OF_TWO)), 76),
+    "lists in lists of a resource that is read": (lists(1), under(piece(1, BOOL_OF_TWO)), 32),
+    "attributes of a span that is read": (piece(9, b""), in_span(before=2 * piece(9, BOOL_OF_TWO)), 76),
 }
 
 

@@ -22,7 +22,7 @@ use Rattle.otlp_read.proofs.Leaves.{utf8_yes}
 use Rattle.otlp_read.proofs.Opened.{opened, attribute_read}
 use Rattle.otlp_read.proofs.Taken.{Taken, Short, some_string_taken}
 use Rattle.otlp_read.proofs.Walks.{before_rest, turn_end}
-use Rattle.otlp_canonical.specs.Anew.{Spelled, gather, pair_of, IsPair, IsFirst}
+use Rattle.otlp_canonical.specs.Anew.{Spelled, gather, pair_of, IsPair, IsPairIn, IsFirst}
 use Rattle.otlp_canonical.specs.Inner.{DefaultLaws, ReadAlike, FieldAlike, PutFor}
 use Rattle.otlp_canonical.proofs.Dropped.{Going, going_put, going_same, front_walked}
 use Rattle.otlp_canonical.proofs.Gathered.{gathered_on, gather_unknown}
@@ -213,7 +213,7 @@ pub record Pairing (d : ℕ) (text left key value : List ℕ) (has : Bool) (size
   pub again : Again d kept
   pub so_far : (room : ℕ) (rest : List ℕ) → walk (key_value_step room) d no_key_value (gone ++ rest) ≡ (pair_of room key value has kept >>= λ p. walk (key_value_step room) d p rest)
 
-keep_none : (p : KeyValueData) → keep_key_value p [] ≡ p
+pub keep_none : (p : KeyValueData) → keep_key_value p [] ≡ p
 keep_none (bare_key key unknown) = ap (λ (u : List ℕ). bare_key key u) (append-nil unknown)
 keep_none (key_value key v unknown) = ap (λ (u : List ℕ). key_value key v u) (append-nil unknown)
 
@@ -259,7 +259,7 @@ keyed_in : (room : ℕ) (key later kept spelled : List ℕ) (r : Result AnyValue
 keyed_in room key later kept spelled (Ok v) valid = ap (λ (r : Result (List ℕ) ReadFault). r >>= λ text. Ok (with_key text (key_value key v kept))) (utf8_yes later valid)
 keyed_in room key later kept spelled (Err f) valid = refl
 
-keyed : (key value later kept : List ℕ) (has : Bool) → IsUtf8 later → (room : ℕ) (spelled : List ℕ) → (pair_of room key value has kept >>= λ p. key_value_step room p (holding 1 later) spelled) ≡ pair_of room later value has kept
+pub keyed : (key value later kept : List ℕ) (has : Bool) → IsUtf8 later → (room : ℕ) (spelled : List ℕ) → (pair_of room key value has kept >>= λ p. key_value_step room p (holding 1 later) spelled) ≡ pair_of room later value has kept
 keyed key value later kept true valid room spelled = keyed_in room key later kept spelled (read_any room no_value value) valid
 keyed key value later kept false valid room spelled = ap (λ (r : Result (List ℕ) ReadFault). r >>= λ text. Ok (with_key text (bare_key key kept))) (utf8_yes later valid)
 
@@ -281,11 +281,11 @@ kept_in : (room : ℕ) (key kept spelled : List ℕ) (field : Entry) (r : Result
 kept_in room key kept spelled field (Ok v) unknown = keeps room (key_value key v kept) field spelled unknown
 kept_in room key kept spelled field (Err f) unknown = refl
 
-kept_on : (key value kept spelled : List ℕ) (has : Bool) (field : Entry) → Unkeyed field → (room : ℕ) → (pair_of room key value has kept >>= λ p. key_value_step room p field spelled) ≡ pair_of room key value has (kept ++ spelled)
+pub kept_on : (key value kept spelled : List ℕ) (has : Bool) (field : Entry) → Unkeyed field → (room : ℕ) → (pair_of room key value has kept >>= λ p. key_value_step room p field spelled) ≡ pair_of room key value has (kept ++ spelled)
 kept_on key value kept spelled true field unknown room = kept_in room key kept spelled field (read_any room no_value value) unknown
 kept_on key value kept spelled false field unknown room = keeps room (bare_key key kept) field spelled unknown
 
-again_on : (d : ℕ) (kept front : List ℕ) (field : Entry) → IsField d front field → Unkeyed field → Again d kept → Again d (kept ++ front)
+pub again_on : (d : ℕ) (kept front : List ℕ) (field : Entry) → IsField d front field → Unkeyed field → Again d kept → Again d (kept ++ front)
 again_on d kept front field first unknown again room p rest =
     let step = key_value_step room in
     ap (walk step d p) (append_assoc kept front rest) ∙ again room p (front ++ rest) ∙ front_walked step d (keep_key_value p kept) front rest field first
@@ -309,6 +309,9 @@ all_paired d text left key value has size none p =
       read = λ room. ap (walk (key_value_step room) d no_key_value) gone ∙ p.so_far room [] ∙ ends (key_value_step room) d (pair_of room key value has p.kept);
     }
 
+abbrev pub pair_at : (room d : ℕ) (text key value : List ℕ) (has : Bool) (size : ℕ) → IsPair d text key value has size → IsPairIn room d text key value has size
+pair_at room d text key value has size p = record { valid = p.valid; kept = p.kept; none = p.none; gathered = p.gathered; again = p.again; read = p.read room }
+
 -- ---- a key with its value is put
 
 key_taken : (room d : ℕ) (key : List ℕ) → IsUtf8 key → Taken (key_value_step room) d no_key_value (some_bytes 1 key) (bare_key key [])
@@ -324,7 +327,7 @@ kept_behind : (inner d : ℕ) (key kept : List ℕ) (r : Result AnyValueData Rea
 kept_behind inner d key kept (Ok v) again = kept_walked inner d kept (key_value key v []) again
 kept_behind inner d key kept (Err f) again = refl
 
-pub key_alike : (room size : ℕ) (text key value old keyed new : List ℕ) → 0 < room → (p : IsPair (101 - room) text key value false size) → length keyed < 2 ^ 64 → keyed ≡ old ++ some_bytes 1 key → new ≡ keyed ++ p.kept
+pub key_alike : (room size : ℕ) (text key value old keyed new : List ℕ) → 0 < room → (p : IsPairIn (room - 1) (101 - room) text key value false size) → length keyed < 2 ^ 64 → keyed ≡ old ++ some_bytes 1 key → new ≡ keyed ++ p.kept
     → ReadAlike key_value_step no_key_value room text old new
 key_alike room size text key value old keyed new some p fits is behind =
     let inner = room - 1 in
@@ -335,10 +338,10 @@ key_alike room size text key value old keyed new some p fits is behind =
     record {
       put = some_bytes 1 key ++ p.kept;
       copied = behind ∙ ap (λ (t : List ℕ). t ++ p.kept) is ∙ append_assoc old (some_bytes 1 key) p.kept;
-      same = opened key_value_step room no_key_value text some ∙ p.read inner ∙ sym read ∙ sym (opened key_value_step room no_key_value (some_bytes 1 key ++ p.kept) some);
+      same = opened key_value_step room no_key_value text some ∙ p.read ∙ sym read ∙ sym (opened key_value_step room no_key_value (some_bytes 1 key ++ p.kept) some);
     }
 
-pub pair_alike : (room size : ℕ) (text key value old keyed valued new : List ℕ) → 0 < room → (p : IsPair (101 - room) text key value true size) → length keyed < 2 ^ 64 → keyed ≡ old ++ some_bytes 1 key
+pub pair_alike : (room size : ℕ) (text key value old keyed valued new : List ℕ) → 0 < room → (p : IsPairIn (room - 1) (101 - room) text key value true size) → length keyed < 2 ^ 64 → keyed ≡ old ++ some_bytes 1 key
     → FieldAlike any_step_in no_value (room - 1) 2 value keyed valued → new ≡ valued ++ p.kept → ReadAlike key_value_step no_key_value room text old new
 pair_alike room size text key value old keyed valued new some p fits is f behind =
     let inner = room - 1 in
@@ -355,7 +358,7 @@ pair_alike room size text key value old keyed valued new some p fits is f behind
       copied =
           behind ∙ ap (λ (t : List ℕ). t ++ p.kept) (f.copied ∙ ap (λ (t : List ℕ). t ++ field) is) ∙ append_assoc (old ++ some_bytes 1 key) field p.kept
           ∙ append_assoc old (some_bytes 1 key) (field ++ p.kept);
-      same = opened key_value_step room no_key_value text some ∙ p.read inner ∙ sym read ∙ sym (opened key_value_step room no_key_value (some_bytes 1 key ++ (field ++ p.kept)) some);
+      same = opened key_value_step room no_key_value text some ∙ p.read ∙ sym read ∙ sym (opened key_value_step room no_key_value (some_bytes 1 key ++ (field ++ p.kept)) some);
     }
 
 -- the same behind a tag and a length, where the value stands behind them too
@@ -364,4 +367,4 @@ pub plain_alike : (room size inner unknown : ℕ) (text key value old tagged siz
     → new ≡ valued ++ p.kept → length new - length sized ≡ size → length keyed < 2 ^ 64 → length valued < 2 ^ 64 → length new < 2 ^ 64 → FieldAlike key_value_step no_key_value room 9 text old new
 plain_alike room size inner unknown text key value old tagged sized keyed behind inside valued new some pair read tag length_ key_is value_tag value_length value_at kept at keyed_fits valued_fits fits =
     let held : FieldAlike any_step_in no_value (room - 1) 2 value keyed valued = field_alike any_step_in no_value (room - 1) 2 inner value keyed behind inside valued value_tag value_length value_at (omega (arith, value_at, valued_fits)) read in
-    field_alike key_value_step no_key_value room 9 size text old tagged sized new tag length_ at (omega (arith, at, fits)) (pair_alike room unknown text key value sized keyed valued new some pair keyed_fits key_is held kept)
+    field_alike key_value_step no_key_value room 9 size text old tagged sized new tag length_ at (omega (arith, at, fits)) (pair_alike room unknown text key value sized keyed valued new some (pair_at (room - 1) (101 - room) text key value true unknown pair) keyed_fits key_is held kept)

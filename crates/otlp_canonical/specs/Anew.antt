@@ -50,6 +50,16 @@ pub record IsPair (d : ℕ) (text key value : List ℕ) (has_value : Bool) (size
       ≡ walk (key_value_step room) d (keep_key_value p kept) rest
   pub read : (room : ℕ) → walk (key_value_step room) d no_key_value text ≡ pair_of room key value has_value kept
 
+-- the same where there is room for so many levels inside the attribute
+pub record IsPairIn (room d : ℕ) (text key value : List ℕ) (has_value : Bool) (size : ℕ) : Type 0 where
+  pub valid : IsUtf8 key
+  pub kept : List ℕ
+  pub none : size ≡ 0 → kept ≡ []
+  pub gathered : walk (gather known_of_key_value no_key_value) d [] text ≡ Ok kept
+  pub again : (inner : ℕ) (p : KeyValueData) (rest : List ℕ) → walk (key_value_step inner) d p (kept ++ rest)
+      ≡ walk (key_value_step inner) d (keep_key_value p kept) rest
+  pub read : walk (key_value_step room) d no_key_value text ≡ pair_of room key value has_value kept
+
 -- no field of the value stands before this one
 abbrev pub IsFirst : ℕ → AnyValueData → Type 0
 IsFirst most v = v ≡ no_value

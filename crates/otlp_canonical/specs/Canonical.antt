@@ -31,6 +31,11 @@ pub record CanonicalResource (room : ℕ) (text : List ℕ) : Type 0 where
   pub typed : TypedResource value
   pub nested : NestedResource room value
 
+-- A reader makes of the text the resource that it makes of the copy, which is that resource's canonical text.
+pub record ResourceCopy (room : ℕ) (text copy : List ℕ) : Type 0 where
+  pub canonical : CanonicalResource room copy
+  pub same : read_with resource_step room no_resource text ≡ read_with resource_step room no_resource copy
+
 -- an instrumentation scope's, likewise
 pub record CanonicalScope (room : ℕ) (text : List ℕ) : Type 0 where
   pub value : ScopeData
@@ -38,6 +43,11 @@ pub record CanonicalScope (room : ℕ) (text : List ℕ) : Type 0 where
   pub written : scope_text value ≡ text
   pub typed : TypedScope value
   pub nested : NestedScope room value
+
+-- and a copy of one
+pub record ScopeCopy (room : ℕ) (text copy : List ℕ) : Type 0 where
+  pub canonical : CanonicalScope room copy
+  pub same : read_with scope_step room no_scope text ≡ read_with scope_step room no_scope copy
 
 -- that of a request, which is a whole body
 pub record CanonicalRequest (text : List ℕ) : Type 0 where

@@ -3,6 +3,7 @@ pub mod Attribute
 pub mod Canonical
 pub mod Defaults
 pub mod Inner
+pub mod Layout
 pub mod LowBits
 pub mod Order
 pub mod Parts

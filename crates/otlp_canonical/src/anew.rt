@@ -6,15 +6,16 @@ ghost use Rattle.std.specs.Prelude.{◌≡◌, ◌-◌, ◌<◌, ℕ, List, [], 
 ghost use Rattle.pb_wire.specs.Grammar.{entry};
 ghost use Rattle.otlp_read.specs.AnyValue.{no_value, no_array, no_list, no_key_value, any_step_in, array_step_in, list_step_in, key_value_step};
 ghost use Rattle.otlp_read.specs.Walk.{walk};
-ghost use Rattle.otlp_canonical.specs.Anew.{gather, GivesWay, HasParts, IsFirst, IsMember, IsPair, IsValue, Spelled};
+ghost use Rattle.otlp_canonical.specs.Anew.{gather, GivesWay, HasParts, IsFirst, IsMember, IsPair, IsPairIn, IsValue, Spelled};
 ghost use Rattle.otlp_canonical.specs.Inner.{ReadAlike, FieldAlike, PutFor};
 
 use crate::attribute::{field_size, varint_size};
 use crate::field::{is_utf8, short_field};
+use crate::joined::put_values;
 use crate::unknown::Keeping;
 use otlp_trace::{AnyValue, KeyValue, put_bytes_field, put_some_bytes, wrap_in_field};
 use pb_wire::{Field, Value, WireType, next_field, put_tag, put_varint};
-use std::alloc::AllocError;
+use std::alloc::{AllocError, Global};
 
 /// The greatest number of a field that is known in a span or in a message in it.
 const MOST: u32 = 16;
@@ -64,7 +65,7 @@ fn short_size(field: Field<'_>) -> usize {
 }
 
 /// Appends the fields of the text that the message doesn't know, as they are spelled. They take so many bytes, or more.
-/// Tells whether the text is fields all through.
+/// Tells whether the text is fields all through; where they take none the text isn't looked at.
 #[inline(always)]
 fn put_unknown<M: Keeping>(
     copy: &mut Vec<u8>,
@@ -94,20 +95,20 @@ fn put_unknown<M: Keeping>(
     Ok(true)
 }
 
-/// An attribute with one value at most.
+/// The key and the value of an attribute.
 #[derive(Clone, Copy)]
-struct Pair<'a> {
+pub struct Pair<'a> {
     /// The last key that stands in it, empty where there is none.
-    key: &'a [u8],
+    pub key: &'a [u8],
 
-    /// Its value.
-    value: &'a [u8],
+    /// Its value, empty where there is none or more than one.
+    pub value: &'a [u8],
 
     /// A value stands in it.
-    has_value: bool,
+    pub has_value: bool,
 
     /// How many bytes its fields take that aren't known.
-    unknown: usize,
+    pub unknown: usize,
 }
 
 /// The key and the value, where the text has one value at most.
@@ -319,12 +320,17 @@ fn put_plain(
 }
 
 /// Appends a field of a span with the attribute's text anew, by way of `put_pair`.
-fn put_nested(copy: &mut Vec<u8>, text: &[u8], room: u32) -> Result<bool, AllocError>
+pub fn put_nested(
+    alloc: Global,
+    copy: &mut Vec<u8>,
+    text: &[u8],
+    room: u32,
+) -> Result<bool, AllocError>
     ensures { IfOk result (λ whole. whole ≡ true
         → FieldAlike key_value_step no_key_value room 9 text.now copy.old.items copy.new.items) }
 {
     let start = copy.len();
-    if !put_pair(copy, text, room)? {
+    if !put_pair(alloc, copy, text, room)? {
         return Ok(false);
     }
     wrap_in_field(copy, start, 9)?;
@@ -332,14 +338,19 @@ fn put_nested(copy: &mut Vec<u8>, text: &[u8], room: u32) -> Result<bool, AllocE
 }
 
 /// Appends a field of a span with the attribute's text anew. Tells whether it did, as `put_pair` does.
-pub fn put_respelled(copy: &mut Vec<u8>, text: &[u8], room: u32) -> Result<bool, AllocError>
+pub fn put_respelled(
+    alloc: Global,
+    copy: &mut Vec<u8>,
+    text: &[u8],
+    room: u32,
+) -> Result<bool, AllocError>
     ensures { IfOk result (λ whole. whole ≡ true
         → FieldAlike key_value_step no_key_value room 9 text.now copy.old.items copy.new.items) }
 {
     let Some(parts) = parts_of(text, room) else {
         return Ok(false);
     };
-    let whole = put_parts(copy, text, parts, room)?;
+    let whole = put_parts(alloc, copy, text, parts, room)?;
     Ok(whole)
 }
 
@@ -347,6 +358,7 @@ pub fn put_respelled(copy: &mut Vec<u8>, text: &[u8], room: u32) -> Result<bool,
 /// without others in it gets is known before it is put.
 #[inline(always)]
 pub fn put_parts(
+    alloc: Global,
     copy: &mut Vec<u8>,
     text: &[u8],
     parts: Parts<'_>,
@@ -360,7 +372,7 @@ pub fn put_parts(
     }
     let pair = parts.pair;
     let Some(field) = plain_member(parts, room - 1) else {
-        let whole = put_nested(copy, text, room)?;
+        let whole = put_nested(alloc, copy, text, room)?;
         return Ok(whole);
     };
     let unknown = parts.chosen.unknown;
@@ -393,10 +405,65 @@ pub fn put_parts(
     Ok(copy.len().saturating_sub(start) == size)
 }
 
-/// Appends the attribute's text anew. Tells whether it did, as it does where no message stands twice in it, and nothing
-/// that isn't known in an array or a list.
+/// Appends the attribute's text anew, of which this is the key, and this its value if it has one. Tells whether it did.
 #[cycle(put)]
-pub fn put_pair(copy: &mut Vec<u8>, text: &[u8], room: u32) -> Result<bool, AllocError>
+fn put_split(
+    alloc: Global,
+    copy: &mut Vec<u8>,
+    text: &[u8],
+    pair: Pair<'_>,
+    value: &[u8],
+    room: u32,
+) -> Result<bool, AllocError>
+    requires some { 0 < room }
+    ensures { IsPairIn (room - 1) (101 - room) text.now pair.entry.key.now value.now
+        pair.entry.has_value pair.entry.unknown → IfOk result (λ whole. whole ≡ true
+        → ReadAlike key_value_step no_key_value room text.now copy.old.items copy.new.items) }
+{
+    let depth = 101u32.saturating_sub(room);
+    put_some_bytes(copy, 1, pair.key)?;
+    if !pair.has_value {
+        let whole = put_unknown::<KeyValue>(copy, text, pair.unknown, depth)?;
+        return Ok(whole);
+    }
+    let start = copy.len();
+    if !put_value(alloc, copy, value, room - 1)? {
+        return Ok(false);
+    }
+    wrap_in_field(copy, start, 2)?;
+    let whole = put_unknown::<KeyValue>(copy, text, pair.unknown, depth)?;
+    Ok(whole)
+}
+
+/// Appends the text anew of an attribute that has several values. Tells whether it did.
+#[cycle(put)]
+fn put_several(
+    alloc: Global,
+    copy: &mut Vec<u8>,
+    text: &[u8],
+    room: u32,
+) -> Result<bool, AllocError>
+    requires some { 0 < room }
+    ensures { IfOk result (λ whole. whole ≡ true
+        → ReadAlike key_value_step no_key_value room text.now copy.old.items copy.new.items) }
+{
+    let mut values = Vec::with_capacity(alloc, text.len())?;
+    let Some(pair) = put_values(&mut values, text, room)? else {
+        return Ok(false);
+    };
+    let whole = put_split(alloc, copy, text, pair, values.as_slice(), room)?;
+    Ok(whole)
+}
+
+/// Appends the attribute's text anew. Tells whether it did, as it does where no array and no list stands twice in it or
+/// before another member, and nothing that isn't known in an array or a list.
+#[cycle(put)]
+pub fn put_pair(
+    alloc: Global,
+    copy: &mut Vec<u8>,
+    text: &[u8],
+    room: u32,
+) -> Result<bool, AllocError>
     ensures { IfOk result (λ whole. whole ≡ true
         → ReadAlike key_value_step no_key_value room text.now copy.old.items copy.new.items) }
 {
@@ -405,25 +472,16 @@ pub fn put_pair(copy: &mut Vec<u8>, text: &[u8], room: u32) -> Result<bool, Allo
     }
     let depth = 101u32.saturating_sub(room);
     let Some(pair) = split_pair(text, depth) else {
-        return Ok(false);
-    };
-    put_some_bytes(copy, 1, pair.key)?;
-    if !pair.has_value {
-        let whole = put_unknown::<KeyValue>(copy, text, pair.unknown, depth)?;
+        let whole = put_several(alloc, copy, text, room)?;
         return Ok(whole);
-    }
-    let start = copy.len();
-    if !put_value(copy, pair.value, room - 1)? {
-        return Ok(false);
-    }
-    wrap_in_field(copy, start, 2)?;
-    let whole = put_unknown::<KeyValue>(copy, text, pair.unknown, depth)?;
+    };
+    let whole = put_split(alloc, copy, text, pair, pair.value, room)?;
     Ok(whole)
 }
 
 /// Appends the value's text anew, in which one member at most counts.
 #[cycle(put)]
-fn put_value(copy: &mut Vec<u8>, text: &[u8], room: u32) -> Result<bool, AllocError>
+fn put_value(alloc: Global, copy: &mut Vec<u8>, text: &[u8], room: u32) -> Result<bool, AllocError>
     ensures { IfOk result (λ whole. whole ≡ true
         → ReadAlike any_step_in no_value room text.now copy.old.items copy.new.items) }
 {
@@ -438,7 +496,7 @@ fn put_value(copy: &mut Vec<u8>, text: &[u8], room: u32) -> Result<bool, AllocEr
         let whole = put_unknown::<AnyValue>(copy, text, chosen.unknown, depth)?;
         return Ok(whole);
     };
-    if !put_kind(copy, field, room - 1)? {
+    if !put_kind(alloc, copy, field, room - 1)? {
         return Ok(false);
     }
     let whole = put_unknown::<AnyValue>(copy, text, chosen.unknown, depth)?;
@@ -447,21 +505,26 @@ fn put_value(copy: &mut Vec<u8>, text: &[u8], room: u32) -> Result<bool, AllocEr
 
 /// Appends the member of a value anew, with room for so many levels inside the value.
 #[cycle(put)]
-fn put_kind(copy: &mut Vec<u8>, field: Field<'_>, room: u32) -> Result<bool, AllocError>
+fn put_kind(
+    alloc: Global,
+    copy: &mut Vec<u8>,
+    field: Field<'_>,
+    room: u32,
+) -> Result<bool, AllocError>
     ensures { (d : ℕ) → IfOk result (λ whole. whole ≡ true
         → PutFor any_step_in IsFirst room d 0 (entry field.entry) copy.old.items copy.new.items) }
 {
     let start = copy.len();
     match field.value {
         Value::Bytes(text) if field.number == 5 => {
-            if !put_array(copy, text, room)? {
+            if !put_array(alloc, copy, text, room)? {
                 return Ok(false);
             }
             wrap_in_field(copy, start, 5)?;
             Ok(true)
         }
         Value::Bytes(text) if field.number == 6 => {
-            if !put_list(copy, text, room)? {
+            if !put_list(alloc, copy, text, room)? {
                 return Ok(false);
             }
             wrap_in_field(copy, start, 6)?;
@@ -479,7 +542,7 @@ fn put_kind(copy: &mut Vec<u8>, field: Field<'_>, room: u32) -> Result<bool, All
 
 /// Appends the array's text anew.
 #[cycle(put)]
-fn put_array(copy: &mut Vec<u8>, text: &[u8], room: u32) -> Result<bool, AllocError>
+fn put_array(alloc: Global, copy: &mut Vec<u8>, text: &[u8], room: u32) -> Result<bool, AllocError>
     ensures { IfOk result (λ whole. whole ≡ true
         → ReadAlike array_step_in no_array room text.now copy.old.items copy.new.items) }
 {
@@ -499,7 +562,7 @@ fn put_array(copy: &mut Vec<u8>, text: &[u8], room: u32) -> Result<bool, AllocEr
             return Ok(false);
         }
         let start = copy.len();
-        if !put_value(copy, value, room - 1)? {
+        if !put_value(alloc, copy, value, room - 1)? {
             return Ok(false);
         }
         wrap_in_field(copy, start, 1)?;
@@ -510,7 +573,7 @@ fn put_array(copy: &mut Vec<u8>, text: &[u8], room: u32) -> Result<bool, AllocEr
 
 /// Appends the text of the list of keys with values anew.
 #[cycle(put)]
-fn put_list(copy: &mut Vec<u8>, text: &[u8], room: u32) -> Result<bool, AllocError>
+fn put_list(alloc: Global, copy: &mut Vec<u8>, text: &[u8], room: u32) -> Result<bool, AllocError>
     ensures { IfOk result (λ whole. whole ≡ true
         → ReadAlike list_step_in no_list room text.now copy.old.items copy.new.items) }
 {
@@ -530,7 +593,7 @@ fn put_list(copy: &mut Vec<u8>, text: &[u8], room: u32) -> Result<bool, AllocErr
             return Ok(false);
         }
         let start = copy.len();
-        if !put_pair(copy, pair, room - 1)? {
+        if !put_pair(alloc, copy, pair, room - 1)? {
             return Ok(false);
         }
         wrap_in_field(copy, start, 1)?;

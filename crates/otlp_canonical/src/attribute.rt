@@ -12,7 +12,7 @@ use crate::field::short_field;
 use crate::number::split;
 use otlp_trace::put_bytes_field;
 use pb_wire::{Value, WireType, next_field, put_tag, put_varint};
-use std::alloc::AllocError;
+use std::alloc::{AllocError, Global};
 
 /// How many bytes the number takes as a varint.
 #[inline(always)]
@@ -233,7 +233,12 @@ pub fn put_attribute(
 
 /// Appends a span's attribute: anew where it can't be canonical otherwise, or where its value holds others behind a
 /// long length; else its length and its value's as short as they can be. Tells whether it did.
-pub fn put_span_attribute(copy: &mut Vec<u8>, text: &[u8], room: u32) -> Result<bool, AllocError>
+pub fn put_span_attribute(
+    alloc: Global,
+    copy: &mut Vec<u8>,
+    text: &[u8],
+    room: u32,
+) -> Result<bool, AllocError>
     ensures { IfOk result (λ whole. whole ≡ true
         → FieldAlike key_value_step no_key_value room 9 text.now copy.old.items copy.new.items) }
 {
@@ -241,7 +246,7 @@ pub fn put_span_attribute(copy: &mut Vec<u8>, text: &[u8], room: u32) -> Result<
         return Ok(false);
     }
     if begins_otherwise(text) {
-        let whole = put_respelled(copy, text, room)?;
+        let whole = put_respelled(alloc, copy, text, room)?;
         return Ok(whole);
     }
     let depth = 101u32.saturating_sub(room);
@@ -250,7 +255,7 @@ pub fn put_span_attribute(copy: &mut Vec<u8>, text: &[u8], room: u32) -> Result<
         return Ok(true);
     };
     if holds_others(value) {
-        let whole = put_respelled(copy, text, room)?;
+        let whole = put_respelled(alloc, copy, text, room)?;
         return Ok(whole);
     }
     let whole = put_last(copy, 9, key, value)?;

@@ -14,7 +14,7 @@ ghost use Rattle.otlp_read.specs.Walk.{read_with};
 
 use crate::attribute::{field_size, is_respelled, put_span_attribute, short_attribute};
 use crate::inner::{put_message, spare_size};
-use crate::rewritten::rewritten;
+use crate::rewritten::rewritten_or_vain;
 use crate::text::is_span_text;
 use crate::unknown::Keeping;
 use otlp_trace::{Event, Link, Span, Status};
@@ -64,6 +64,7 @@ fn spare_inside(field: Field<'_>, size: usize, room: u32, span: usize) -> Option
 /// `most`. Tells whether it did: a status that stands again is merged with the one that stands.
 #[inline(always)]
 fn put_inside(
+    alloc: Global,
     copy: &mut Vec<u8>,
     field: Field<'_>,
     spare: usize,
@@ -78,7 +79,7 @@ fn put_inside(
         return Ok(false);
     };
     let whole = match field.number {
-        9 => put_span_attribute(copy, text, room)?,
+        9 => put_span_attribute(alloc, copy, text, room)?,
         11 => put_message::<Event>(copy, 11, text, spare, room)?,
         13 => put_message::<Link>(copy, 13, text, spare, room)?,
         15 if most < 15 => put_message::<Status>(copy, 15, text, spare, room)?,
@@ -92,6 +93,7 @@ fn put_inside(
 /// greater number no message is canonical.
 #[inline(always)]
 fn put_bare(
+    alloc: Global,
     copy: &mut Vec<u8>,
     field: Field<'_>,
     spare: usize,
@@ -108,7 +110,7 @@ fn put_bare(
     if field.number < most {
         return Ok(false);
     }
-    put_inside(copy, field, spare, most, room)
+    put_inside(alloc, copy, field, spare, most, room)
 }
 
 /// Whether the field stands behind the flags, where numbers up to `most` were met, and has its place before them.
@@ -143,6 +145,7 @@ struct Uncopied<'a> {
 /// because the text isn't fields, or because its flags stand before others and aren't moved, or are and stand twice.
 #[inline(always)]
 fn put_fields<'a>(
+    alloc: Global,
     copy: &mut Vec<u8>,
     text: &'a [u8],
     room: u32,
@@ -184,7 +187,7 @@ fn put_fields<'a>(
         copy.extend_from_slice(&from[..from.len() - left.len()])?;
         if moves && flags.is_empty() {
             flags = &left[..left.len() - rest.len()];
-        } else if !moves && put_bare(copy, field, spare.unwrap_or(0), most, room - 1)? {
+        } else if !moves && put_bare(alloc, copy, field, spare.unwrap_or(0), most, room - 1)? {
             most = most.max(field.number);
         } else {
             return Ok(None);
@@ -209,7 +212,7 @@ fn dropped(
         ≡ read_with span_step room no_span copy.items)) }
 {
     let mut copy = Vec::with_capacity(alloc, text.len())?;
-    let Some(uncopied) = put_fields(&mut copy, text, room, moves_flags)? else {
+    let Some(uncopied) = put_fields(alloc, &mut copy, text, room, moves_flags)? else {
         return Ok(None);
     };
     if uncopied.from.len() == text.len() {
@@ -223,13 +226,15 @@ fn dropped(
     Ok(Some(copy))
 }
 
-/// A span's canonical text, where the given text is that but for what `put_fields` leaves out or moves.
+/// A span's canonical text, where the given text is that but for what `put_fields` leaves out or moves. Where there is
+/// none, `vain` tells whether all was done for that in vain that can be: fields in another order make none either.
 #[inline(always)]
 pub fn bare_copy(
     alloc: Global,
     text: &[u8],
     room: u32,
     moves_flags: bool,
+    vain: &mut bool,
 ) -> Result<Option<Vec<u8>>, AllocError>
     ensures { IfOk result (λ found. IfSome found (λ copy. CanonicalCopy room text.now
         copy.items)) }
@@ -243,7 +248,7 @@ pub fn bare_copy(
     if is_span_text(copy.as_slice(), room) {
         return Ok(Some(copy));
     }
-    let anew = rewritten(alloc, copy.as_slice(), room)?;
+    let anew = rewritten_or_vain(alloc, copy.as_slice(), room, vain)?;
     Ok(anew)
 }
 
@@ -264,5 +269,6 @@ pub fn without_defaults(
     ensures { IfOk result (λ found. IfSome found (λ copy. CanonicalCopy room text.now
         copy.items)) }
 {
-    bare_copy(alloc, text, room, false)
+    let mut vain = false;
+    bare_copy(alloc, text, room, false, &mut vain)
 }

@@ -35,11 +35,16 @@ pub fn flags_are_early(text: &[u8]) -> bool {
 }
 
 /// A span's canonical text, where the given text is that but for its flags, which stand before other fields, and for
-/// what `without_defaults` leaves out.
+/// what `without_defaults` leaves out. `vain` is that of `bare_copy`.
 #[inline(never)]
-pub fn with_flags_last(alloc: Global, text: &[u8], room: u32) -> Result<Option<Vec<u8>>, AllocError>
+pub fn with_flags_last(
+    alloc: Global,
+    text: &[u8],
+    room: u32,
+    vain: &mut bool,
+) -> Result<Option<Vec<u8>>, AllocError>
     ensures { IfOk result (λ found. IfSome found (λ copy. CanonicalCopy room text.now
         copy.items)) }
 {
-    bare_copy(alloc, text, room, true)
+    bare_copy(alloc, text, room, true, vain)
 }

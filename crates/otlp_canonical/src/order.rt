@@ -10,7 +10,7 @@ ghost use Rattle.otlp_trace.specs.Defaults.{no_span};
 ghost use Rattle.otlp_read.specs.Value.{span_step};
 ghost use Rattle.otlp_read.specs.Walk.{read_with};
 
-use crate::defaults::without_defaults;
+use crate::defaults::bare_copy;
 use crate::field::is_utf8;
 use crate::flags::{flags_are_early, with_flags_last};
 use crate::rewritten::rewritten;
@@ -119,6 +119,22 @@ fn last_wins(place: u32) -> bool
 /// Whether in canonical order a field at this place may stand behind those of places up to the highest.
 fn follows(place: u32, highest: u32) -> bool {
     highest < place || highest == place && matches!(place, 9 | 11 | 13 | NOT_KNOWN)
+}
+
+/// Whether the text is a span's fields in canonical order.
+pub fn are_ordered(text: &[u8], room: u32) -> bool {
+    let depth = 101u32.saturating_sub(room);
+    let mut left = text;
+    let mut highest = 0u32;
+    'fields: while let Ok(Some((field, rest))) = next_field(left, depth) {
+        let place = place(field);
+        if !follows(place, highest) {
+            return false;
+        }
+        highest = highest.max(place);
+        left = rest;
+    }
+    left.is_empty()
 }
 
 /// Whether a span's field is UTF-8, if it has to be.
@@ -310,8 +326,9 @@ fn sorted_copy(alloc: Global, text: &[u8], room: u32) -> Result<Option<Vec<u8>>,
     if !zero_count && is_span_text(copy.as_slice(), room) {
         return Ok(Some(copy));
     }
-    let found = without_defaults(alloc, copy.as_slice(), room)?;
-    if found.is_some() {
+    let mut vain = false;
+    let found = bare_copy(alloc, copy.as_slice(), room, false, &mut vain)?;
+    if found.is_some() || vain {
         return Ok(found);
     }
     let anew = rewritten(alloc, copy.as_slice(), room)?;
@@ -323,16 +340,32 @@ fn sorted_copy(alloc: Global, text: &[u8], room: u32) -> Result<Option<Vec<u8>>,
 /// span; with room for so many levels, as in `is_span_text`. Else none, and nothing is said of the text. A text that is
 /// canonical already may have none, or a copy.
 ///
-/// The text may have some bytes of room more than it takes: at most 38 for each default, and 18 for each length.
+/// The text may have some bytes of room more than it takes: at most 38 for each default, 18 for each length, and those
+/// of a field that stands twice.
 pub fn in_order(alloc: Global, text: &[u8], room: u32) -> Result<Option<Vec<u8>>, AllocError>
     ensures { IfOk result (λ found. IfSome found (λ copy. CanonicalCopy room text.now
         copy.items)) }
 {
     if flags_are_early(text) {
-        let found = with_flags_last(alloc, text, room)?;
-        if found.is_some() {
+        let mut vain = false;
+        let found = with_flags_last(alloc, text, room, &mut vain)?;
+        if found.is_some() || vain {
             return Ok(found);
         }
     }
     sorted_copy(alloc, text, room)
+}
+
+/// What `without_defaults` gives, or else what `in_order` does. Of a text that can't be made canonical no more is made
+/// than shows it.
+pub fn canonical_copy(alloc: Global, text: &[u8], room: u32) -> Result<Option<Vec<u8>>, AllocError>
+    ensures { IfOk result (λ found. IfSome found (λ copy. CanonicalCopy room text.now
+        copy.items)) }
+{
+    let mut vain = false;
+    let found = bare_copy(alloc, text, room, false, &mut vain)?;
+    if found.is_some() || vain {
+        return Ok(found);
+    }
+    in_order(alloc, text, room)
 }

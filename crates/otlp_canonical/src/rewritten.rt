@@ -1,25 +1,28 @@
 //! Spans whose fields are in order, of which some are put anew one by one: what isn't canonical in an attribute,
-//! numbers of more bits than a span takes, and events, links, statuses and attributes that are read and written.
+//! numbers of more bits than a span takes, events and links, and statuses and what else is read and written.
 
-ghost use Rattle.std.specs.Prelude.{◌≡◌, ◌-◌, ◌<◌, ◌++◌, ℕ, true, [], IfOk, IfSome};
+ghost use Rattle.std.specs.Prelude.{◌≡◌, ◌-◌, ◌<◌, ◌++◌, ℕ, true, false, [], IfOk, IfSome};
 ghost use Rattle.pb_wire.specs.Grammar.{entry, Bytes, IsField};
 ghost use Rattle.otlp_canonical.specs.Anew.{held, HasParts, WrittenAnew};
 ghost use Rattle.otlp_canonical.specs.Canonical.{CanonicalCopy};
 ghost use Rattle.otlp_canonical.specs.Defaults.{DefaultsAbove};
-ghost use Rattle.otlp_canonical.specs.Inner.{PutFor};
+ghost use Rattle.otlp_canonical.specs.Inner.{FieldAlike, PutFor};
 ghost use Rattle.otlp_canonical.specs.LowBits.{IsReadAs};
 ghost use Rattle.otlp_trace.specs.Defaults.{no_span};
 ghost use Rattle.otlp_read.specs.Value.{span_step};
 ghost use Rattle.otlp_read.specs.Walk.{numbered, read_with};
 
-use crate::anew::{Parts, are_short, parts_of, put_parts, put_short};
+use crate::anew::{Parts, are_short, parts_of, put_nested, put_parts, put_short};
 use crate::attribute::{begins_otherwise, field_size, is_plain};
 use crate::defaults::is_default;
+use crate::joined::has_values;
 use crate::message::Canonical;
+use crate::order::are_ordered;
+use crate::places::{Placed, put_by_places};
 use crate::text::is_span_text;
 use crate::unknown::Keeping;
 use otlp_read::{ReadFault, read_span, span_is_typed};
-use otlp_trace::{Event, KeyValue, Link, Span, Status, write_span};
+use otlp_trace::{Event, KeyValue, Link, Span, Status, put_bytes_field, write_span};
 use pb_wire::{Field, Value, next_field};
 use std::alloc::{AllocError, Global};
 
@@ -48,11 +51,6 @@ fn stays(field: Field<'_>, size: usize, room: u32) -> bool {
     canonical && size == field_size(text.len())
 }
 
-/// Whether the field is an attribute.
-fn is_attribute(field: Field<'_>) -> bool {
-    field.number == 9 && matches!(field.value, Value::Bytes(_))
-}
-
 /// The parts of the field, if it is an attribute that `put_parts` puts.
 fn parts_in(field: Field<'_>, room: u32) -> Option<Parts<'_>>
     ensures { IfSome result (λ parts. HasParts room (held (entry field.entry).value) parts) }
@@ -67,13 +65,20 @@ fn parts_in(field: Field<'_>, room: u32) -> Option<Parts<'_>>
     if are_short(parts) { Some(parts) } else { None }
 }
 
+/// Whether the field, of which `parts_in` finds nothing, is an attribute of one value, which is read and written.
+fn is_read(field: Field<'_>, room: u32) -> bool {
+    let Value::Bytes(text) = field.value else {
+        return false;
+    };
+    field.number == 9 && !has_values(text, 101u32.saturating_sub(room))
+}
+
 /// Whether the field at the front is an attribute that is read and written, if it doesn't stay as it is.
 fn is_read_next(text: &[u8], room: u32) -> bool {
     let depth = 101u32.saturating_sub(room);
+    let inner = room.saturating_sub(1);
     match next_field(text, depth) {
-        Ok(Some((field, _rest))) => {
-            is_attribute(field) && parts_in(field, room.saturating_sub(1)).is_none()
-        }
+        Ok(Some((field, _rest))) => is_read(field, inner) && parts_in(field, inner).is_none(),
         _ => false,
     }
 }
@@ -151,10 +156,81 @@ fn put_attribute(
         copy.old.items copy.new.items) }
 {
     let Some(found) = parts else {
+        if has_values(text, 102u32.saturating_sub(room)) {
+            let whole = put_nested(alloc, copy, text, room - 1)?;
+            return Ok(whole);
+        }
         let whole = put_read(alloc, copy, spelled, room)?;
         return Ok(whole);
     };
-    let whole = put_parts(copy, text, found, room - 1)?;
+    let whole = put_parts(alloc, copy, text, found, room - 1)?;
+    Ok(whole)
+}
+
+/// Appends a field of this number, from 1 to 15, with the message's text anew. Tells whether it did; else nothing is
+/// appended.
+fn put_placed<M: Placed>(
+    alloc: Global,
+    copy: &mut Vec<u8>,
+    number: u32,
+    text: &[u8],
+    room: u32,
+) -> Result<bool, AllocError>
+    ensures put { IfOk result (λ whole. whole ≡ true
+        → FieldAlike M.layout.step M.layout.none room number text.now copy.old.items
+        copy.new.items) }
+    ensures not { IfOk result (λ whole. whole ≡ false → copy.new.items ≡ copy.old.items) }
+{
+    if number == 0 || number > 15 {
+        return Ok(false);
+    }
+    let mut anew = Vec::new(alloc);
+    if !put_by_places::<M>(alloc, &mut anew, text, room)? {
+        return Ok(false);
+    }
+    put_bytes_field(copy, number, anew.as_slice())?;
+    Ok(true)
+}
+
+/// Appends a span's event anew: from its text, or else what is written of what is read. Tells whether it did.
+fn put_event(
+    alloc: Global,
+    copy: &mut Vec<u8>,
+    text: &[u8],
+    spelled: &[u8],
+    room: u32,
+) -> Result<bool, AllocError>
+    requires some { 0 < room }
+    requires spelled { IsField (101 - room) spelled.now (numbered 11 (Bytes text.now)) }
+    ensures { (d most : ℕ) → IfOk result (λ whole. whole ≡ true
+        → PutFor span_step DefaultsAbove (room - 1) d most (numbered 11 (Bytes text.now))
+        copy.old.items copy.new.items) }
+{
+    if put_placed::<Event>(alloc, copy, 11, text, room - 1)? {
+        return Ok(true);
+    }
+    let whole = put_read(alloc, copy, spelled, room)?;
+    Ok(whole)
+}
+
+/// Appends a span's link anew, likewise.
+fn put_link(
+    alloc: Global,
+    copy: &mut Vec<u8>,
+    text: &[u8],
+    spelled: &[u8],
+    room: u32,
+) -> Result<bool, AllocError>
+    requires some { 0 < room }
+    requires spelled { IsField (101 - room) spelled.now (numbered 13 (Bytes text.now)) }
+    ensures { (d most : ℕ) → IfOk result (λ whole. whole ≡ true
+        → PutFor span_step DefaultsAbove (room - 1) d most (numbered 13 (Bytes text.now))
+        copy.old.items copy.new.items) }
+{
+    if put_placed::<Link>(alloc, copy, 13, text, room - 1)? {
+        return Ok(true);
+    }
+    let whole = put_read(alloc, copy, spelled, room)?;
     Ok(whole)
 }
 
@@ -190,8 +266,8 @@ fn put_anew(
     }
     let whole = match field.number {
         9 => put_attribute(alloc, copy, text, parts, spelled, room)?,
-        11 => put_read(alloc, copy, spelled, room)?,
-        13 => put_read(alloc, copy, spelled, room)?,
+        11 => put_event(alloc, copy, text, spelled, room)?,
+        13 => put_link(alloc, copy, text, spelled, room)?,
         15 if most < 15 => put_read(alloc, copy, spelled, room)?,
         15 => false,
         _ => put_short(copy, field)?,
@@ -231,7 +307,7 @@ fn put_fields<'a>(
         }
         // To read all attributes of a span alone takes longer than to read the span.
         let parts = parts_in(field, room - 1);
-        if parts.is_none() && is_attribute(field) && is_read_next(rest, room) {
+        if parts.is_none() && is_read(field, room - 1) && is_read_next(rest, room) {
             return Ok(None);
         }
         copy.extend_from_slice(&from[..from.len() - left.len()])?;
@@ -263,4 +339,23 @@ pub fn rewritten(alloc: Global, text: &[u8], room: u32) -> Result<Option<Vec<u8>
     } else {
         Ok(None)
     }
+}
+
+/// What `rewritten` gives. Where that is none, `vain` tells whether the text's fields are in order, so that none will
+/// come of them in another.
+pub fn rewritten_or_vain(
+    alloc: Global,
+    text: &[u8],
+    room: u32,
+    vain: &mut bool,
+) -> Result<Option<Vec<u8>>, AllocError>
+    ensures { IfOk result (λ found. IfSome found (λ copy. CanonicalCopy room text.now
+        copy.items)) }
+{
+    let anew = rewritten(alloc, text, room)?;
+    if anew.is_some() {
+        return Ok(anew);
+    }
+    *vain = are_ordered(text, room);
+    Ok(None)
 }

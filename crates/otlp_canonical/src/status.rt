@@ -134,7 +134,7 @@ fn put_code(copy: &mut Vec<u8>, code: u64, has_code: bool) -> Result<(), AllocEr
 }
 
 /// Whether the text is fields.
-fn is_fields(text: &[u8], depth: u32) -> bool
+pub fn is_fields(text: &[u8], depth: u32) -> bool
     ensures { IsTrue result → AreFields depth text.now }
 {
     let mut left = text;

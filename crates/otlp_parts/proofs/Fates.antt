@@ -1,5 +1,5 @@
 -- Whether a resource or a scope can be read, and its fault, doesn't depend on what it is merged into.
-use Rattle.std.proofs.Common.{◌≡◌, ℕ, zero, suc, ◌-◌, ◌==◌, Bool, true, false, if◌then◌else◌, List, length, Option, Some, None, Result, Ok, Err, refl, sym, ap, ◌∙◌}
+use Rattle.std.proofs.Common.{◌≡◌, ℕ, zero, suc, ◌-◌, ◌==◌, Bool, true, false, if◌then◌else◌, List, length, Option, Some, None, Result, Ok, Err, refl, sym, ◌∙◌}
 use Rattle.std.specs.Prelude.{unwrap_or}
 use Rattle.pb_wire.specs.declared.field.WireFault.{WireFault}
 use Rattle.pb_wire.specs.Grammar.{Datum, Varint, Eight, Bytes, Four, Group, Entry}
@@ -103,21 +103,12 @@ resource_fate a b bytes = read_fate resource_step 99 a b bytes (λ r x y e spell
 scope_fate : (a b : ScopeData) (bytes : List ℕ) → fault_of (read_with scope_step 98 a bytes) ≡ fault_of (read_with scope_step 98 b bytes)
 scope_fate a b bytes = read_fate scope_step 98 a b bytes (λ r x y e spelled. scope_field r e.number e.value spelled x y)
 
--- what a holder has that was made with a message
-held_made : {A W : Type 0} (r : Result A ReadFault) (put : A → W) (held : W → Option A) → ((x : A) → held (put x) ≡ Some x) → ((r >>= λ x. Ok (put x)) >>= λ w. Ok (held w)) ≡ (r >>= λ x. Ok (Some x))
-held_made {A = A} (Ok x) put held is = ap (λ (o : Option A). Ok o) (is x)
-held_made (Err e) put held is = refl
-
 pub resource_laws : MergeLaws resource_embedding
 resource_laws = record {
-  first = refl;
-  merges = λ w bytes spelled. held_made (merged_resource 99 w.resource bytes) (λ x. record w { resource = Some x }) (λ v. v.resource) (λ x. refl);
   same_fault = λ before bytes. made_fate (merged_resource 99 before bytes) (λ x. Some x) ∙ resource_fate (unwrap_or before no_resource) no_resource bytes;
 }
 
 pub scope_laws : MergeLaws scope_embedding
 scope_laws = record {
-  first = refl;
-  merges = λ w bytes spelled. held_made (merged_scope 98 w.scope bytes) (λ x. record w { scope = Some x }) (λ v. v.scope) (λ x. refl);
   same_fault = λ before bytes. made_fate (merged_scope 98 before bytes) (λ x. Some x) ∙ scope_fate (unwrap_or before no_scope) no_scope bytes;
 }

@@ -9,3 +9,4 @@ pub mod Counts
 pub mod WithSpans
 pub mod Few
 pub mod Same
+pub mod Copied

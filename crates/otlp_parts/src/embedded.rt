@@ -1,27 +1,21 @@
 //! Messages that are the first field of another, their holder, and are merged where they stand again.
 
-ghost use Rattle.std.specs.Prelude.{◌≡◌, ◌≤◌, ◌+◌, true, Ok, Some, length, slice_range, option_map, is_ok, IsTrue, IfOk};
+ghost use Rattle.std.specs.Prelude.{◌≡◌, ◌≤◌, ◌+◌, true, Ok, Some, length, slice_range, option_map, is_ok, IsTrue, IfOk, IfSome};
 ghost use Rattle.otlp_read.specs.Fault.{Gives};
-ghost use Rattle.otlp_parts.specs.Embedded.{Embedding, text_of, message_in, message_of, holder_in, held_among, another, HasText, MergeLaws};
+ghost use Rattle.otlp_parts.specs.Embedded.{Embedding, text_of, message_in, message_of, another, HasText, MergeLaws};
 ghost use Rattle.otlp_parts.specs.Found.{found_view, IsFound};
 ghost use Rattle.otlp_parts.specs.Sizes.{text_size};
 
 use crate::found::{Found, FoundText};
 use otlp_read::ReadFault;
-use otlp_trace::put_bytes_field;
-use std::alloc::Global;
+use std::alloc::{AllocError, Global};
 use text_slice::TextSlice;
-
-/// The most bytes that the tag and length of a field round a text have.
-const HEAD: usize = 11;
 
 /// A message that its holder may have again: a resource, or an instrumentation scope.
 pub trait Embedded: Drop {
     ghost Data: { Type 0 };
 
-    ghost Holder: { Type 0 };
-
-    ghost embedding: { Embedding Data Holder };
+    ghost embedding: { Embedding Data };
 
     ghost view: { Self → Data };
 
@@ -29,22 +23,37 @@ pub trait Embedded: Drop {
     fn is_text(bytes: &[u8]) -> bool
         ensures { IsTrue result → HasText embedding bytes.now bytes.now };
 
+    /// The message's canonical text, made of the bytes without the message, if they are one of which that can be made.
+    fn copied(alloc: Global, bytes: &[u8]) -> Result<Option<Vec<u8>>, AllocError>
+        ensures { IfOk result (λ found. IfSome found (λ copy. HasText embedding bytes.now
+            copy.items)) };
+
     /// The message that the bytes are.
     fn read(alloc: Global, bytes: &[u8]) -> Result<Self, ReadFault>
         ensures exact { Gives view result (message_in embedding bytes.now) };
-
-    /// The message that these fields of its holder make together.
-    fn read_held(alloc: Global, fields: &[u8]) -> Result<Option<Self>, ReadFault>
-        requires sound { is_ok (holder_in embedding fields.now) ≡ true }
-        ensures exact { Gives (option_map view) result (Ok (held_among embedding fields.now)) };
 
     /// Its canonical text.
     fn written(&self, alloc: Global) -> Result<TextSlice, ReadFault>
         ensures exact { Gives (λ text. text) result (Ok (text_of embedding (view self.now))) };
 
-    /// One that stands again is merged into the one before.
+    /// Whether one that stands again can be read doesn't depend on the one before.
     fn merges()
         ensures { MergeLaws embedding };
+}
+
+/// The canonical text of a message that isn't canonical, made of its bytes, or else written of what is read.
+fn text_anew<M: Embedded>(alloc: Global, bytes: &[u8]) -> Result<TextSlice, ReadFault>
+    ensures exact { Gives (λ text. message_of M.embedding bytes.now) result
+        (message_in M.embedding bytes.now) }
+    ensures has { IfOk result (λ text. HasText M.embedding bytes.now text) }
+{
+    if let Some(copy) = M::copied(alloc, bytes)? {
+        let text = TextSlice::from_vec(alloc, copy)?;
+        return Ok(text);
+    }
+    let message = M::read(alloc, bytes)?;
+    let text = message.written(alloc)?;
+    Ok(text)
 }
 
 /// A message as it stands.
@@ -70,8 +79,7 @@ fn first<M: Embedded>(
             sliced,
         });
     }
-    let message = M::read(alloc, bytes.as_slice())?;
-    let text = message.written(alloc)?;
+    let text = text_anew::<M>(alloc, bytes.as_slice())?;
     Ok(FoundText {
         bytes,
         text,
@@ -79,36 +87,50 @@ fn first<M: Embedded>(
     })
 }
 
-/// The one message that came, as a field of its holder.
-fn one_field<M: Embedded>(alloc: Global, bytes: &[u8]) -> Result<Vec<u8>, ReadFault>
-    requires sound { is_ok (message_in M.embedding bytes.now) ≡ true }
-    ensures exact { Gives (λ fields. held_among M.embedding fields.items) result
-        (Ok (Some (message_of M.embedding bytes.now))) }
-    ensures sound { IfOk result (λ fields. is_ok (holder_in M.embedding fields.items) ≡ true) }
+/// Whether the bytes are a message, or else their fault.
+fn look_at<M: Embedded>(alloc: Global, bytes: &[u8]) -> Result<(), ReadFault>
+    ensures exact { Gives (λ looked. message_of M.embedding bytes.now) result
+        (message_in M.embedding bytes.now) }
 {
-    M::merges();
-    let mut fields = Vec::with_capacity(alloc, bytes.len().saturating_add(HEAD))?;
-    put_bytes_field(&mut fields, 1, bytes)?;
-    Ok(fields)
+    if M::is_text(bytes) {
+        return Ok(());
+    }
+    if let Some(_copy) = M::copied(alloc, bytes)? {
+        return Ok(());
+    }
+    let _message = M::read(alloc, bytes)?;
+    Ok(())
 }
 
-/// The messages that came, each as a field of their holder, and one more.
-fn with_field<M: Embedded>(
+/// The texts of the messages that came, one behind the other, and one more.
+fn with_another<M: Embedded>(
     alloc: Global,
-    fields: Vec<u8>,
+    texts: Vec<u8>,
     bytes: &[u8],
 ) -> Result<Vec<u8>, ReadFault>
-    requires sound { is_ok (holder_in M.embedding fields.items) ≡ true }
-    ensures exact { Gives (λ more. held_among M.embedding more.items) result
-        (another M.embedding (held_among M.embedding fields.items) bytes.now) }
-    ensures sound { IfOk result (λ more. is_ok (holder_in M.embedding more.items) ≡ true) }
+    requires sound { is_ok (message_in M.embedding texts.items) ≡ true }
+    ensures exact { Gives (λ more. Some (message_of M.embedding more.items)) result
+        (another M.embedding (Some (message_of M.embedding texts.items)) bytes.now) }
+    ensures sound { IfOk result (λ more. is_ok (message_in M.embedding more.items) ≡ true) }
 {
     M::merges();
     // Its fault comes before those of fields behind it, so it is looked for at once.
-    let _sound = M::read(alloc, bytes)?;
-    let mut more = fields;
-    put_bytes_field(&mut more, 1, bytes)?;
+    look_at::<M>(alloc, bytes)?;
+    let mut more = texts;
+    more.extend_from_slice(bytes)?;
     Ok(more)
+}
+
+/// The text of the one message that came.
+fn one_text<M: Embedded>(alloc: Global, bytes: &[u8]) -> Result<Vec<u8>, ReadFault>
+    requires sound { is_ok (message_in M.embedding bytes.now) ≡ true }
+    ensures exact { Gives (λ text. message_of M.embedding text.items) result
+        (Ok (message_of M.embedding bytes.now)) }
+    ensures sound { IfOk result (λ text. is_ok (message_in M.embedding text.items) ≡ true) }
+{
+    let mut text = Vec::with_capacity(alloc, bytes.len())?;
+    text.extend_from_slice(bytes)?;
+    Ok(text)
 }
 
 /// What was found, and one more message that is merged into it.
@@ -132,30 +154,28 @@ pub fn found_again<M: Embedded>(
             Ok(Found::Once(first))
         }
         Found::Once(first) => {
-            let one = one_field::<M>(alloc, first.bytes.as_slice())?;
-            let several = with_field::<M>(alloc, one, &text.as_slice()[start..end])?;
+            let one = one_text::<M>(alloc, first.bytes.as_slice())?;
+            let several = with_another::<M>(alloc, one, &text.as_slice()[start..end])?;
             Ok(Found::Again(several))
         }
         Found::Again(others) => {
-            let several = with_field::<M>(alloc, others, &text.as_slice()[start..end])?;
+            let several = with_another::<M>(alloc, others, &text.as_slice()[start..end])?;
             Ok(Found::Again(several))
         }
     }
 }
 
-/// The canonical text of several messages, merged.
-fn merged_text<M: Embedded>(alloc: Global, fields: &[u8]) -> Result<Option<TextSlice>, ReadFault>
-    requires sound { is_ok (holder_in M.embedding fields.now) ≡ true }
+/// The canonical text of several messages, which are merged by having their texts one behind the other.
+fn merged_text<M: Embedded>(alloc: Global, texts: Vec<u8>) -> Result<TextSlice, ReadFault>
+    requires sound { is_ok (message_in M.embedding texts.items) ≡ true }
     ensures exact { Gives (λ text. text) result
-        (Ok (option_map (text_of M.embedding) (held_among M.embedding fields.now))) }
+        (Ok (text_of M.embedding (message_of M.embedding texts.items))) }
 {
-    match M::read_held(alloc, fields)? {
-        Some(message) => {
-            let text = message.written(alloc)?;
-            Ok(Some(text))
-        }
-        None => Ok(None),
+    if M::is_text(texts.as_slice()) {
+        let text = TextSlice::from_vec(alloc, texts)?;
+        return Ok(text);
     }
+    text_anew::<M>(alloc, texts.as_slice())
 }
 
 /// The canonical text of what was found.
@@ -175,6 +195,9 @@ pub fn found_text<M: Embedded>(
             *sliced = sliced.saturating_add(first.sliced);
             Ok(Some(first.text))
         }
-        Found::Again(fields) => merged_text::<M>(alloc, fields.as_slice()),
+        Found::Again(texts) => {
+            let text = merged_text::<M>(alloc, texts)?;
+            Ok(Some(text))
+        }
     }
 }

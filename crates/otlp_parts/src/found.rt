@@ -21,6 +21,6 @@ pub enum Found {
     Missing,
     /// It stands once.
     Once(FoundText),
-    /// It stands again, and is merged when all have come. Each is a field of these.
+    /// It stands again: the texts of all, one behind the other, which merges them.
     Again(Vec<u8>),
 }

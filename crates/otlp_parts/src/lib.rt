@@ -2,7 +2,7 @@
 //!
 //! [`read_parts`] gives what reading a body and writing each of its messages gives (`specs/Texts`), and refuses a body
 //! exactly where `otlp_read` does. Of a span, a resource or a scope whose bytes are its canonical text already no
-//! message is made: the part is a slice of the body. Any other is read and written, one at a time. A resource or a
+//! message is made: the part is a slice of the body. Any other is put anew from its text, or read. A resource or a
 //! scope that stands again is merged. Spans without a sound trace id and span id are counted and left out.
 //!
 //! A slice shares the body's memory, and as long as one is held the whole body is. So where slices make up less than

@@ -1,7 +1,7 @@
 //! Resource spans, and the resources in them.
 
 ghost use Rattle.std.specs.Prelude.{◌≡◌, ◌≤◌, ◌+◌, Ok, length, map, slice_range, IfOk};
-ghost use Rattle.otlp_trace.specs.Data.{ResourceData, ResourceSpansData};
+ghost use Rattle.otlp_trace.specs.Data.{ResourceData};
 ghost use Rattle.otlp_trace.specs.View.{resource_view};
 ghost use Rattle.otlp_read.specs.Fault.{Gives};
 ghost use Rattle.otlp_parts.specs.Embedded.{resource_embedding};
@@ -17,11 +17,11 @@ use crate::part_text::PartText;
 use crate::parts::{ResourceParts, ScopeList, ScopeParts};
 use crate::scope::{no_scope, scope_parts};
 use crate::walk::{Walked, walk_fields};
-use otlp_canonical::is_resource_text;
-use otlp_read::{ReadFault, read_resource, read_resource_spans};
-use otlp_trace::{Resource, ResourceSpans, write_resource};
+use otlp_canonical::{is_resource_text, resource_copy};
+use otlp_read::{ReadFault, read_resource};
+use otlp_trace::{Resource, write_resource};
 use pb_wire::{Field, Value};
-use std::alloc::Global;
+use std::alloc::{AllocError, Global};
 use std::mem;
 use text_slice::TextSlice;
 
@@ -31,8 +31,6 @@ const RESOURCE_ROOM: u32 = 99;
 impl Embedded for Resource {
     ghost Data = { ResourceData };
 
-    ghost Holder = { ResourceSpansData };
-
     ghost embedding = { resource_embedding };
 
     ghost view = { resource_view };
@@ -41,13 +39,15 @@ impl Embedded for Resource {
         is_resource_text(bytes, RESOURCE_ROOM)
     }
 
-    fn read(alloc: Global, bytes: &[u8]) -> Result<Resource, ReadFault> {
-        read_resource(alloc, bytes, RESOURCE_ROOM)
+    fn copied(alloc: Global, bytes: &[u8]) -> Result<Option<Vec<u8>>, AllocError> {
+        let Some(copy) = resource_copy(alloc, bytes, RESOURCE_ROOM)? else {
+            return Ok(None);
+        };
+        Ok(Some(copy))
     }
 
-    fn read_held(alloc: Global, fields: &[u8]) -> Result<Option<Resource>, ReadFault> {
-        let ResourceSpans { resource, .. } = read_resource_spans(alloc, fields, RESOURCE_ROOM + 1)?;
-        Ok(resource)
+    fn read(alloc: Global, bytes: &[u8]) -> Result<Resource, ReadFault> {
+        read_resource(alloc, bytes, RESOURCE_ROOM)
     }
 
     fn written(&self, alloc: Global) -> Result<TextSlice, ReadFault> {

@@ -1,7 +1,7 @@
 //! Scope spans, and the instrumentation scopes in them.
 
 ghost use Rattle.std.specs.Prelude.{◌≡◌, ◌≤◌, ◌+◌, Ok, length, slice_range, IfOk};
-ghost use Rattle.otlp_trace.specs.Data.{ScopeData, ScopeSpansData};
+ghost use Rattle.otlp_trace.specs.Data.{ScopeData};
 ghost use Rattle.otlp_trace.specs.View.{scope_view};
 ghost use Rattle.otlp_read.specs.Fault.{Gives};
 ghost use Rattle.otlp_parts.specs.Embedded.{scope_embedding};
@@ -17,11 +17,11 @@ use crate::part_text::PartText;
 use crate::parts::{ScopeParts, SpanTexts};
 use crate::span::span_part;
 use crate::walk::Walked;
-use otlp_canonical::is_scope_text;
-use otlp_read::{ReadFault, read_scope, read_scope_spans};
-use otlp_trace::{InstrumentationScope, ScopeSpans, write_scope};
+use otlp_canonical::{is_scope_text, scope_copy};
+use otlp_read::{ReadFault, read_scope};
+use otlp_trace::{InstrumentationScope, write_scope};
 use pb_wire::{Field, Value};
-use std::alloc::Global;
+use std::alloc::{AllocError, Global};
 use std::mem;
 use text_slice::TextSlice;
 
@@ -34,8 +34,6 @@ const LEAST_SPAN: usize = 28;
 impl Embedded for InstrumentationScope {
     ghost Data = { ScopeData };
 
-    ghost Holder = { ScopeSpansData };
-
     ghost embedding = { scope_embedding };
 
     ghost view = { scope_view };
@@ -44,13 +42,15 @@ impl Embedded for InstrumentationScope {
         is_scope_text(bytes, SCOPE_ROOM)
     }
 
-    fn read(alloc: Global, bytes: &[u8]) -> Result<InstrumentationScope, ReadFault> {
-        read_scope(alloc, bytes, SCOPE_ROOM)
+    fn copied(alloc: Global, bytes: &[u8]) -> Result<Option<Vec<u8>>, AllocError> {
+        let Some(copy) = scope_copy(alloc, bytes, SCOPE_ROOM)? else {
+            return Ok(None);
+        };
+        Ok(Some(copy))
     }
 
-    fn read_held(alloc: Global, fields: &[u8]) -> Result<Option<InstrumentationScope>, ReadFault> {
-        let ScopeSpans { scope, .. } = read_scope_spans(alloc, fields, SCOPE_ROOM + 1)?;
-        Ok(scope)
+    fn read(alloc: Global, bytes: &[u8]) -> Result<InstrumentationScope, ReadFault> {
+        read_scope(alloc, bytes, SCOPE_ROOM)
     }
 
     fn written(&self, alloc: Global) -> Result<TextSlice, ReadFault> {

@@ -11,12 +11,12 @@ ghost use Rattle.otlp_parts.specs.Kept.{kept_span};
 ghost use Rattle.otlp_parts.specs.ReadAs.{span_of};
 ghost use Rattle.otlp_parts.specs.Sizes.{text_size};
 
-use otlp_canonical::{in_order, is_span_text, without_defaults};
+use otlp_canonical::{canonical_copy, is_span_text};
 use otlp_read::{ReadFault, read_span};
 use otlp_trace::{Span, write_span};
 use span_pool::read_spans_are_viewed;
 use span_view::SpanRef;
-use std::alloc::{AllocError, Global};
+use std::alloc::Global;
 use text_slice::TextSlice;
 
 /// The levels that a span in a body has room for, its own among them.
@@ -73,19 +73,6 @@ fn is_valid_text(text: &[u8]) -> bool
     is_id(view.trace_id(), 16) && is_id(view.span_id(), 8)
 }
 
-/// The canonical text of a span that isn't canonical but for defaults that are written in it, or for the order of its
-/// fields.
-fn canonical_copy(alloc: Global, text: &[u8]) -> Result<Option<Vec<u8>>, AllocError>
-    ensures { IfOk result (λ found. IfSome found (λ copy. CanonicalCopy 98 text.now copy.items)) }
-{
-    let bare = without_defaults(alloc, text, SPAN_ROOM)?;
-    if bare.is_some() {
-        return Ok(bare);
-    }
-    let ordered = in_order(alloc, text, SPAN_ROOM)?;
-    Ok(ordered)
-}
-
 /// A canonical text, none where its span isn't valid.
 fn copied_part(alloc: Global, copy: Vec<u8>) -> Result<Option<TextSlice>, ReadFault>
     requires canonical { CanonicalSpan 98 copy.items }
@@ -103,7 +90,7 @@ fn copied_part(alloc: Global, copy: Vec<u8>) -> Result<Option<TextSlice>, ReadFa
 fn written_part(alloc: Global, text: &[u8]) -> Result<Option<TextSlice>, ReadFault>
     ensures { Gives (λ part. part) result (kept_span text.now) }
 {
-    if let Some(copy) = canonical_copy(alloc, text)? {
+    if let Some(copy) = canonical_copy(alloc, text, SPAN_ROOM)? {
         let part = copied_part(alloc, copy)?;
         return Ok(part);
     }

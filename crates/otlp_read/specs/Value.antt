@@ -3,7 +3,7 @@
 -- merged, repeated fields keep their order, and each known string and message must itself be sound. Fields that aren't
 -- known, and known ones with another wire type, are kept as they were spelled, but in a request, a resource spans, a
 -- scope spans, a response and its partial success, where they are dropped.
-use Rattle.std.specs.Prelude.{ℕ, ◌==◌, if◌then◌else◌, List, [], ◌++◌, Option, Some, None, unwrap_or, Result, Ok}
+use Rattle.std.specs.Prelude.{ℕ, ◌==◌, if◌then◌else◌, List, ◌++◌, Option, Some, None, unwrap_or, Result, Ok}
 use Rattle.pb_wire.specs.Grammar.{Varint, Eight, Bytes, Four}
 use Rattle.otlp_trace.specs.Data.{KeyValueData, ResourceData, ScopeData, StatusData, EventData, LinkData, SpanData, ScopeSpansData, ResourceSpansData, RequestData}
 use Rattle.otlp_trace.specs.Defaults.{no_resource, no_scope, no_status, no_event, no_link, no_span, no_scope_spans, no_resource_spans, no_request}

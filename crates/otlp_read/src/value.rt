@@ -1,6 +1,6 @@
 //! Attribute values, which may hold others. What takes one field is inlined, as for spans.
 
-ghost use Rattle.std.specs.Prelude.{◌≡◌, ◌≤◌, ℕ, List};
+ghost use Rattle.std.specs.Prelude.{◌≡◌, ◌≤◌, ◌++◌, ◌∷◌, ℕ, List, [], IfOk};
 ghost use Rattle.pb_wire.specs.Grammar.{entry, Bytes};
 ghost use Rattle.otlp_trace.specs.Data.{KeyValueData};
 ghost use Rattle.otlp_trace.specs.View.{any_view, kind_view, array_view, list_view, key_value_view};
@@ -14,7 +14,7 @@ use crate::leaf::{keep, string};
 use crate::message::Message;
 use otlp_trace::{AnyValue, AnyValueKind, ArrayValue, DoubleBits, KeyValue, KeyValueList, Octets};
 use pb_wire::{Field, Value, next_field};
-use std::alloc::Global;
+use std::alloc::{AllocError, Global};
 
 fn empty_value(alloc: Global) -> AnyValue
     ensures { any_view result ≡ no_value }
@@ -41,6 +41,19 @@ fn empty_list(alloc: Global) -> KeyValueList
         values: Vec::new(alloc),
         unknown: Octets::new(alloc),
     }
+}
+
+/// The values, and one behind them. The first takes the room of one: lists in one another would hold room for four
+/// each.
+fn with_one<T: Drop>(values: Vec<T>, value: T) -> Result<Vec<T>, AllocError>
+    ensures { IfOk result (λ more. more.items ≡ values.items ++ value ∷ []) }
+{
+    let mut more = values;
+    if more.is_empty() {
+        more.reserve_exact(1)?;
+    }
+    more.push(value)?;
+    Ok(more)
 }
 
 /// The array that is chosen, or one of no values.
@@ -203,8 +216,7 @@ fn array_field(
     if let Value::Bytes(bytes) = field.value {
         if field.number == 1 {
             let value = any_value(alloc, empty_value(alloc), bytes, room)?;
-            let mut values = values;
-            values.push(value)?;
+            let values = with_one(values, value)?;
             return Ok(ArrayValue { values, unknown });
         }
     }
@@ -253,8 +265,7 @@ fn list_field(
     if let Value::Bytes(bytes) = field.value {
         if field.number == 1 {
             let key_value = key_value(alloc, empty_key_value(alloc), bytes, room)?;
-            let mut values = values;
-            values.push(key_value)?;
+            let values = with_one(values, key_value)?;
             return Ok(KeyValueList { values, unknown });
         }
     }

@@ -1,4 +1,4 @@
-use Rattle.std.proofs.Common.{rules, arith, ◌≡◌, ◌-◌, ◌<◌, ◌^◌, ◌++◌, ℕ, Bool, true, false, is_some, [], Option, None, Some, Ok, option_map, length, sym, ap, subst, ◌∙◌}
+use Rattle.std.proofs.Common.{rules, arith, ◌≡◌, ◌-◌, ◌<◌, ◌^◌, ◌++◌, ℕ, List, Bool, true, false, is_some, [], Option, None, Some, Ok, option_map, length, sym, ap, subst, ◌∙◌}
 use Rattle.std.proofs.lemmas.Bool.Decides.{nat_tests}
 use Rattle.pb_wire.specs.Grammar.{Entry, entry}
 use Rattle.pb_wire.specs.Reading.{next_at}
@@ -6,48 +6,74 @@ use Rattle.otlp_trace.specs.Data.{AnyValueData}
 use Rattle.otlp_read.specs.AnyValue.{no_value, no_array, no_list, no_key_value, any_step_in, array_step_in, list_step_in, key_value_step}
 use Rattle.otlp_read.specs.Nested.{known_of_any, known_of_key_value}
 use Rattle.otlp_read.specs.Walk.{walk}
-use Rattle.otlp_canonical.specs.Anew.{gather, IsPair, IsFirst, IsValue}
+use Rattle.otlp_canonical.specs.Anew.{gather, IsPair, IsPairIn, IsFirst, IsValue}
 use Rattle.otlp_canonical.specs.Inner.{ReadAlike, FieldAlike, PutFor}
 use Rattle.otlp_canonical.proofs.Members.{bare_alike, member_alike}
-use Rattle.otlp_canonical.proofs.Respelled.{spelled_put, any_spelled, wrapped, array_put, list_put, none_put, one_put, all_put, value_put, pair_put, key_alike, pair_alike}
+use Rattle.otlp_canonical.proofs.Respelled.{spelled_put, any_spelled, wrapped, array_put, list_put, none_put, one_put, all_put, value_put, pair_put, pair_at, key_alike, pair_alike}
 use Rattle.otlp_canonical.proofs.Inside.{holding}
 use Rattle.otlp_canonical.proofs.Parts.{nothing}
 use Rattle.otlp_canonical.proofs.anew.+put.Goals as goal
 
-pub put_pair-returns-then-not-pair : goal.put_pair-returns-then-not-pair
-put_pair-returns-then-not-pair t c whole =
-    let at : c.saturating_sub-depth.result ≡ 101 - c.args.room = search rules in
-    let none : c.in-Some.pair.has_value ≡ false = search rules in
-    let key = c.in-Some.pair.key.now in
-    let value = c.in-Some.pair.value.now in
-    let is : IsPair (101 - c.args.room) c.args.text.now key value c.in-Some.pair.has_value c.in-Some.pair.unknown = subst (λ (d : ℕ). IsPair d c.args.text.now key value c.in-Some.pair.has_value c.in-Some.pair.unknown) at c.in-Some.ensures in
-    let bare : IsPair (101 - c.args.room) c.args.text.now key value false c.in-Some.pair.unknown = subst (λ (has : Bool). IsPair (101 - c.args.room) c.args.text.now key value has c.in-Some.pair.unknown) none is in
+pub put_split-returns-then-not-pair : goal.put_split-returns-then-not-pair
+put_split-returns-then-not-pair t c is whole =
+    let d = 101 - c.args.room in
+    let inner = c.args.room - 1 in
+    let at : c.saturating_sub-depth.result ≡ d = search rules in
+    let none : c.args.pair.has_value ≡ false = search rules in
+    let text = c.args.text.now in
+    let key = c.args.pair.key.now in
+    let value = c.args.value.now in
+    let bare : IsPairIn inner d text key value false c.args.pair.unknown = subst (λ (has : Bool). IsPairIn inner d text key value has c.args.pair.unknown) none is in
     let keyed = c.put_some_bytes.new.out.items in
     let new = c.put_unknown.new.copy.items in
     let fits : length keyed < 2 ^ 64 = omega arith in
-    let gathered : walk (gather known_of_key_value no_key_value) c.saturating_sub-depth.result [] c.args.text.now ≡ Ok bare.kept = subst (λ (d : ℕ). walk (gather known_of_key_value no_key_value) d [] c.args.text.now ≡ Ok bare.kept) (sym at) bare.gathered in
+    let gathered : walk (gather known_of_key_value no_key_value) c.saturating_sub-depth.result [] text ≡ Ok bare.kept = subst (λ (n : ℕ). walk (gather known_of_key_value no_key_value) n [] text ≡ Ok bare.kept) (sym at) bare.gathered in
     let kept : new ≡ keyed ++ bare.kept = c.in_ok-whole.ensures no_key_value bare.kept gathered bare.none whole in
-    key_alike c.args.room c.in-Some.pair.unknown c.args.text.now key value c.args.copy.now.items keyed new (omega arith) bare fits (search rules) kept
+    key_alike c.args.room c.args.pair.unknown text key value c.args.copy.now.items keyed new c.requires.some bare fits (search rules) kept
 
-pub put_pair-returns : goal.put_pair-returns
-put_pair-returns t c whole =
-    let at : c.saturating_sub-depth.result ≡ 101 - c.args.room = search rules in
-    let some : c.in-Some.pair.has_value ≡ true = search rules in
-    let key = c.in-Some.pair.key.now in
-    let value = c.in-Some.pair.value.now in
-    let is : IsPair (101 - c.args.room) c.args.text.now key value c.in-Some.pair.has_value c.in-Some.pair.unknown = subst (λ (d : ℕ). IsPair d c.args.text.now key value c.in-Some.pair.has_value c.in-Some.pair.unknown) at c.in-Some.ensures in
-    let both : IsPair (101 - c.args.room) c.args.text.now key value true c.in-Some.pair.unknown = subst (λ (has : Bool). IsPair (101 - c.args.room) c.args.text.now key value has c.in-Some.pair.unknown) some is in
+pub put_split-returns : goal.put_split-returns
+put_split-returns t c is whole =
+    let d = 101 - c.args.room in
+    let inner = c.args.room - 1 in
+    let at : c.saturating_sub-depth.result ≡ d = search rules in
+    let some : c.args.pair.has_value ≡ true = search rules in
+    let text = c.args.text.now in
+    let key = c.args.pair.key.now in
+    let value = c.args.value.now in
+    let both : IsPairIn inner d text key value true c.args.pair.unknown = subst (λ (has : Bool). IsPairIn inner d text key value has c.args.pair.unknown) some is in
     let keyed = c.put_some_bytes.new.out.items in
     let mid = c.put_value.new.copy.items in
     let valued = c.wrap_in_field.new.out.items in
     let new = c.put_unknown-2.new.copy.items in
-    let a : ReadAlike any_step_in no_value (c.args.room - 1) value keyed mid = search rules in
+    let a : ReadAlike any_step_in no_value inner value keyed mid = search rules in
     let fits : length mid < 2 ^ 64 = omega arith in
     let keyed_fits : length keyed < 2 ^ 64 = omega arith in
-    let f : FieldAlike any_step_in no_value (c.args.room - 1) 2 value keyed valued = wrapped any_step_in no_value (c.args.room - 1) 2 c.len-start.result value keyed mid valued (search rules) fits (search rules) a in
-    let gathered : walk (gather known_of_key_value no_key_value) c.saturating_sub-depth.result [] c.args.text.now ≡ Ok both.kept = subst (λ (d : ℕ). walk (gather known_of_key_value no_key_value) d [] c.args.text.now ≡ Ok both.kept) (sym at) both.gathered in
+    let f : FieldAlike any_step_in no_value inner 2 value keyed valued = wrapped any_step_in no_value inner 2 c.len-start.result value keyed mid valued (search rules) fits (search rules) a in
+    let gathered : walk (gather known_of_key_value no_key_value) c.saturating_sub-depth.result [] text ≡ Ok both.kept = subst (λ (n : ℕ). walk (gather known_of_key_value no_key_value) n [] text ≡ Ok both.kept) (sym at) both.gathered in
     let kept : new ≡ valued ++ both.kept = c.in_ok-whole-2.ensures no_key_value both.kept gathered both.none whole in
-    pair_alike c.args.room c.in-Some.pair.unknown c.args.text.now key value c.args.copy.now.items keyed valued new (omega arith) both keyed_fits (search rules) f kept
+    pair_alike c.args.room c.args.pair.unknown text key value c.args.copy.now.items keyed valued new c.requires.some both keyed_fits (search rules) f kept
+
+pub put_several-returns : goal.put_several-returns
+put_several-returns t c whole =
+    let d = 101 - c.args.room in
+    let inner = c.args.room - 1 in
+    let text = c.args.text.now in
+    let pair = c.in-Some.pair in
+    let values = c.put_values.new.values.items in
+    let all : c.as_slice.result.now ≡ values = search rules in
+    let has : pair.has_value ≡ true = rw c.in-Some.is at c.in_ok-pair.ensures.has in
+    let found : IsPairIn inner d text pair.key.now values true pair.unknown = rw c.in-Some.is at c.in_ok-pair.ensures.is in
+    let there : IsPairIn inner d text pair.key.now values pair.has_value pair.unknown = subst (λ (b : Bool). IsPairIn inner d text pair.key.now values b pair.unknown) (sym has) found in
+    let is : IsPairIn inner d text pair.key.now c.as_slice.result.now pair.has_value pair.unknown = subst (λ (v : List ℕ). IsPairIn inner d text pair.key.now v pair.has_value pair.unknown) (sym all) there in
+    c.in_ok-whole.ensures is whole
+
+pub put_pair-returns : goal.put_pair-returns
+put_pair-returns t c whole =
+    let at : c.saturating_sub-depth.result ≡ 101 - c.args.room = search rules in
+    let text = c.args.text.now in
+    let pair = c.in-Some.pair in
+    let is : IsPair (101 - c.args.room) text pair.key.now pair.value.now pair.has_value pair.unknown = subst (λ (d : ℕ). IsPair d text pair.key.now pair.value.now pair.has_value pair.unknown) at c.in-Some.ensures in
+    c.in_ok-whole-2.ensures (pair_at (c.args.room - 1) (101 - c.args.room) text pair.key.now pair.value.now pair.has_value pair.unknown is) whole
 
 pub put_value-returns-in_default-member : goal.put_value-returns-in_default-member
 put_value-returns-in_default-member t c whole =

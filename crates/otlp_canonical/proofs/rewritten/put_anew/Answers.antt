@@ -10,7 +10,7 @@ use Rattle.otlp_canonical.specs.Inner.{PutFor}
 use Rattle.otlp_canonical.proofs.Respelled.{spelled_put, span_spelled}
 use Rattle.otlp_canonical.proofs.Inside.{holding, nothing_put}
 use Rattle.otlp_canonical.proofs.InnerDefaults.{span_laws}
-use Rattle.otlp_canonical.proofs.ReadAndWritten.{event_written, link_written, status_written}
+use Rattle.otlp_canonical.proofs.ReadAndWritten.{status_written}
 use Rattle.otlp_canonical.proofs.rewritten.put_anew.Goals as goal
 
 pub returns-then-is_default : goal.returns-then-is_default
@@ -41,27 +41,37 @@ returns-in_ok-whole-in-9 c d has whole =
     let found : IfSome c.args.parts (λ p. HasParts (c.args.room - 1) c.in-Bytes.text.now p) = subst (λ (f : Entry). IfSome c.args.parts (λ p. HasParts (c.args.room - 1) (held f.value) p)) same has in
     subst (λ (f : Entry). PutFor span_step DefaultsAbove (c.args.room - 1) d c.args.most f c.args.copy.now.items c.put_attribute.new.copy.items) (sym same) (c.in_ok-whole-in-9.ensures d c.args.most found whole)
 
+pub put_event-requires : goal.put_event-requires
+put_event-requires c =
+    let same : entry c.args.field ≡ holding 11 c.in-Bytes.text.now = search rules in
+    record {
+      some = omega arith;
+      spelled = subst (λ (f : Entry). IsField (101 - c.args.room) c.args.spelled.now f) same c.requires.spelled;
+    }
+
 pub returns-in_ok-whole-in-11 : goal.returns-in_ok-whole-in-11
 returns-in_ok-whole-in-11 c d has whole =
     let same : entry c.args.field ≡ holding 11 c.in-Bytes.text.now = search rules in
-    let first : IsField (101 - c.args.room) c.args.spelled.now (holding 11 c.in-Bytes.text.now) = subst (λ (f : Entry). IsField (101 - c.args.room) c.args.spelled.now f) same c.requires.spelled in
-    let fits : length c.put_read.new.copy.items < 2 ^ 64 = omega arith in
-    subst (λ (f : Entry). PutFor span_step DefaultsAbove (c.args.room - 1) d c.args.most f c.args.copy.now.items c.put_read.new.copy.items) (sym same)
-    (event_written c.args.room d c.args.most c.args.spelled.now c.in-Bytes.text.now c.args.copy.now.items c.put_read.new.copy.items (omega arith) first fits (c.in_ok-whole-in-11.ensures whole))
+    subst (λ (f : Entry). PutFor span_step DefaultsAbove (c.args.room - 1) d c.args.most f c.args.copy.now.items c.put_event.new.copy.items) (sym same) (c.in_ok-whole-in-11.ensures d c.args.most whole)
+
+pub put_link-requires : goal.put_link-requires
+put_link-requires c =
+    let same : entry c.args.field ≡ holding 13 c.in-Bytes.text.now = search rules in
+    record {
+      some = omega arith;
+      spelled = subst (λ (f : Entry). IsField (101 - c.args.room) c.args.spelled.now f) same c.requires.spelled;
+    }
 
 pub returns-in_ok-whole-in-13 : goal.returns-in_ok-whole-in-13
 returns-in_ok-whole-in-13 c d has whole =
     let same : entry c.args.field ≡ holding 13 c.in-Bytes.text.now = search rules in
-    let first : IsField (101 - c.args.room) c.args.spelled.now (holding 13 c.in-Bytes.text.now) = subst (λ (f : Entry). IsField (101 - c.args.room) c.args.spelled.now f) same c.requires.spelled in
-    let fits : length c.put_read-in-13.new.copy.items < 2 ^ 64 = omega arith in
-    subst (λ (f : Entry). PutFor span_step DefaultsAbove (c.args.room - 1) d c.args.most f c.args.copy.now.items c.put_read-in-13.new.copy.items) (sym same)
-    (link_written c.args.room d c.args.most c.args.spelled.now c.in-Bytes.text.now c.args.copy.now.items c.put_read-in-13.new.copy.items (omega arith) first fits (c.in_ok-whole-in-13.ensures whole))
+    subst (λ (f : Entry). PutFor span_step DefaultsAbove (c.args.room - 1) d c.args.most f c.args.copy.now.items c.put_link.new.copy.items) (sym same) (c.in_ok-whole-in-13.ensures d c.args.most whole)
 
 pub returns-in_ok-whole-in-15 : goal.returns-in_ok-whole-in-15
 returns-in_ok-whole-in-15 c d has whole =
     let same : entry c.args.field ≡ holding 15 c.in-Bytes.text.now = search rules in
     let early : c.args.most < 15 = search rules in
     let first : IsField (101 - c.args.room) c.args.spelled.now (holding 15 c.in-Bytes.text.now) = subst (λ (f : Entry). IsField (101 - c.args.room) c.args.spelled.now f) same c.requires.spelled in
-    let fits : length c.put_read-in-15.new.copy.items < 2 ^ 64 = omega arith in
-    subst (λ (f : Entry). PutFor span_step DefaultsAbove (c.args.room - 1) d c.args.most f c.args.copy.now.items c.put_read-in-15.new.copy.items) (sym same)
-    (status_written c.args.room d c.args.most c.args.spelled.now c.in-Bytes.text.now c.args.copy.now.items c.put_read-in-15.new.copy.items (omega arith) early first fits (c.in_ok-whole-in-15.ensures whole))
+    let fits : length c.put_read.new.copy.items < 2 ^ 64 = omega arith in
+    subst (λ (f : Entry). PutFor span_step DefaultsAbove (c.args.room - 1) d c.args.most f c.args.copy.now.items c.put_read.new.copy.items) (sym same)
+    (status_written c.args.room d c.args.most c.args.spelled.now c.in-Bytes.text.now c.args.copy.now.items c.put_read.new.copy.items (omega arith) early first fits (c.in_ok-whole-in-15.ensures whole))

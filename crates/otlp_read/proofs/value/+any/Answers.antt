@@ -127,10 +127,10 @@ pub array_field-returns-then-field-eq1 : goal.array_field-returns-then-field-eq1
 array_field-returns-then-field-eq1 t c =
     let one : c.args.field.number ≡ 1 = search rules in
     let found : read_any c.args.room no_value c.in-Bytes.bytes.now ≡ Ok (any_view c.in_ok-value.value) = search (rules, the_lemmas) in
-    record { exact = rw (c.in-Bytes.is, one, found) (ap (λ (a : ArrayValueData). Ok a) (sym (array_pushed c.args.before c.push.new.self c.in_ok-value.value c.in_ok-push.ensures.items))) }
+    record { exact = rw (c.in-Bytes.is, one, found) (ap (λ (a : ArrayValueData). Ok a) (sym (array_pushed c.args.before c.in_ok-values.values c.in_ok-value.value c.in_ok-values.ensures))) }
 
 pub list_field-returns-then-field-eq1 : goal.list_field-returns-then-field-eq1
 list_field-returns-then-field-eq1 t c =
     let one : c.args.field.number ≡ 1 = search rules in
     let found : read_key_value c.args.room no_key_value c.in-Bytes.bytes.now ≡ Ok (key_value_view c.in_ok-key_value.key_value) = search (rules, the_lemmas) in
-    record { exact = rw (c.in-Bytes.is, one, found) (ap (λ (l : KeyValueListData). Ok l) (sym (list_pushed c.args.before c.push.new.self c.in_ok-key_value.key_value c.in_ok-push.ensures.items))) }
+    record { exact = rw (c.in-Bytes.is, one, found) (ap (λ (l : KeyValueListData). Ok l) (sym (list_pushed c.args.before c.in_ok-values.values c.in_ok-key_value.key_value c.in_ok-values.ensures))) }
