@@ -36,16 +36,16 @@ KNOWN = [
     ("tail_settings/src/parsed.rt", "parse", 1, "the TOML reader's error says that it is want of memory"),
     ("trace_collector_program/src/serve.rt", "from", 1, "a thread wasn't started for want of what one is started with"),
     ("tenant_shard/src/shard.rt", "run", 2, "room for the outcomes was refused, or a step was"),
-    ("trace_service/src/post.rt", "without_memory", 1, "the reply itself"),
+    ("tenant_registry/src/replies.rt", "without_memory", 1, "the reply itself"),
+    ("tenant_registry/src/changes.rt", "added", 1, "there was no memory to hear what is answered: it is no text"),
+    ("tenant_registry/src/changes.rt", "add_answered", 1, "there was no memory to hear what is answered"),
+    ("tenant_registry/src/changes.rt", "not_added", 1, "the line that is answered says so"),
+    ("tenant_registry/src/changes.rt", "retire_told", 1, "there was no memory to hear what is answered: it is no text"),
+    ("tenant_registry/src/changes.rt", "retire_answered", 1, "there was no memory to hear what is answered"),
+    ("tenant_registry/src/documents.rt", "from", 1, "of a document's faults want of memory alone has no number"),
     ("trace_service/src/context.rt", "reply_to_head", 1, "bodies on their way leave too little for this one, of what they may take"),
     ("trace_service/src/context.rt", "answer", 1, "the step with the answer was refused memory"),
     ("trace_service/src/context.rt", "admitted", 1, "memory was refused, and not all is done yet that was put off for it"),
-    ("trace_service/src/changes.rt", "added", 1, "there was no memory to hear what is answered: it is no text"),
-    ("trace_service/src/changes.rt", "add_answered", 1, "there was no memory to hear what is answered"),
-    ("trace_service/src/changes.rt", "not_added", 1, "the line that is answered says so"),
-    ("trace_service/src/changes.rt", "retire_told", 1, "there was no memory to hear what is answered: it is no text"),
-    ("trace_service/src/changes.rt", "retire_answered", 1, "there was no memory to hear what is answered"),
-    ("trace_service/src/comings.rt", "from", 1, "of a document's faults want of memory alone has no number"),
 ]
 
 CLAUSE = re.compile(r"(?:ensures|requires|decreases|invariant|variant)\b\*?\s*(?:[a-z_]\w*\s*)?\{")

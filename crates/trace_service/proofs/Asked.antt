@@ -7,7 +7,8 @@ use Rattle.service_runtime.specs.Documents.{Reads}
 use Rattle.service_runtime.specs.Output.{Output, IsPut}
 use Rattle.shared_hub.specs.Logs.{CallerState}
 use Rattle.tail_settings.specs.Settings.{SettingsData}
-use Rattle.trace_service.specs.Comings.{Present, Standing, IsAdded}
+use Rattle.tenant_registry.specs.Roster.{Present}
+use Rattle.trace_service.specs.Comings.{Standing, IsAdded}
 use Rattle.trace_service.specs.Commands.{AsksNothing, IsReportedOf, IsRetiredOf, IsAnswered, reports, adds, retires, asks_nothing}
 
 -- a line has one byte at a place

@@ -5,10 +5,10 @@ use Rattle.service_runtime.specs.Output.{Output}
 use Rattle.shared_hub.specs.Logs.{CallerState}
 use Rattle.tail_settings.specs.Change.{Change}
 use Rattle.tail_settings.specs.Settings.{SettingsData}
-use Rattle.trace_service.specs.Comings.{Present, Standing}
+use Rattle.tenant_registry.specs.Roster.{Present, entry_of}
+use Rattle.tenant_registry.specs.declared.roster.Present.{Present as Entry}
+use Rattle.trace_service.specs.Comings.{Standing}
 use Rattle.trace_service.specs.Commands.{AreDrained, AreEmptyOn, AreReported, AreCommandsRead}
-use Rattle.trace_service.specs.Roster.{entry_of}
-use Rattle.trace_service.specs.declared.roster.Present.{Present as Entry}
 use Rattle.trace_service.specs.Whole.{IsDirected, IsCourse}
 use Rattle.trace_service.proofs.Present.{number, numbers}
 

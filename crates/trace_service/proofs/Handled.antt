@@ -8,9 +8,10 @@ use Rattle.shared_hub.specs.Logs.{CallerState}
 use Rattle.tail_settings.specs.declared.section.Section.{Section}
 use Rattle.tail_settings.specs.Section.{SectionData, section_view}
 use Rattle.tail_settings.specs.Settings.{SettingsData, section_at}
-use Rattle.trace_service.specs.declared.in_force.Destination.TheVariants.{To, Nowhere}
-use Rattle.trace_service.specs.InForce.{IsTenant, IsWhere}
-use Rattle.trace_service.specs.Post.{MayTell, IsSent, IsSentBy}
+use Rattle.tenant_registry.specs.declared.in_force.Destination.TheVariants.{To, Nowhere}
+use Rattle.tenant_registry.specs.InForce.{IsTenant, IsWhere}
+use Rattle.tenant_registry.specs.Replies.{MayTell}
+use Rattle.trace_service.specs.Post.{IsSent, IsSentBy}
 
 -- where a request goes its body has no say in
 pub route_with_body : (names : Names) (request : Request) (body : List ℕ)

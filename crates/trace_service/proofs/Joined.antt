@@ -5,12 +5,13 @@ use Rattle.shared_hub.specs.Logs.{CallerState}
 use Rattle.tail_settings.specs.Change.{Change, admit, strike}
 use Rattle.tail_settings.specs.Fault.{FaultData}
 use Rattle.tail_settings.specs.Settings.{SettingsData}
-use Rattle.trace_service.specs.declared.comings.NotAdded.{NotAdded}
-use Rattle.trace_service.specs.declared.comings.NotAdded.TheVariants.{OutOfMemory}
-use Rattle.trace_service.specs.declared.in_force.Newcomer.{Newcomer}
-use Rattle.trace_service.specs.Comings.{Standing, why_not, not_added_text, IsAdded, added, not_joined, turned_away, unread, IsJoined, IsNotJoined, IsStruck}
-use Rattle.trace_service.specs.Documents.{IsUnread}
-use Rattle.trace_service.specs.InForce.{IsLetIn, IsTurnedAway}
+use Rattle.tenant_registry.specs.declared.documents.NotAdded.{NotAdded}
+use Rattle.tenant_registry.specs.declared.documents.NotAdded.TheVariants.{OutOfMemory}
+use Rattle.tenant_registry.specs.declared.in_force.Newcomer.{Newcomer}
+use Rattle.tenant_registry.specs.NotAdded.{why_not, not_added_text}
+use Rattle.tenant_registry.specs.Documents.{IsUnread}
+use Rattle.tenant_registry.specs.InForce.{IsLetIn, IsTurnedAway}
+use Rattle.trace_service.specs.Comings.{Standing, IsAdded, added, not_joined, turned_away, unread, IsJoined, IsNotJoined, IsStruck}
 
 module _ (reads : Reads) (first : SettingsData) (shards : ℕ) (path : List ℕ) (standing : Standing) (old : CallerState) (left : Standing) where
   -- nobody came, and no step was made

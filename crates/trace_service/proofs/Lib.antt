@@ -4,15 +4,10 @@ pub mod Heard
 pub mod Coursed
 pub mod Handled
 pub mod Present
-pub mod Came
-pub mod Admitted
-pub mod Below
 pub mod Standing
 pub mod Asked
 pub mod Joined
-pub mod Replies
 pub mod Shown
 pub mod Jobs
 pub mod Received
 pub mod Given
-pub mod Changed

@@ -20,14 +20,13 @@ use Rattle.service_runtime.specs.Token.{is_let_in}
 use Rattle.service_runtime.proofs.Talked.{talk_keeps}
 use Rattle.shared_hub.specs.Logs.{CallerState}
 use Rattle.tail_settings.specs.Settings.{SettingsData}
-use Rattle.trace_service.specs.declared.roster.Present.{Present as Entry}
+use Rattle.tenant_registry.specs.declared.roster.Present.{Present as Entry}
+use Rattle.tenant_registry.specs.Roster.{Present, entry_of}
+use Rattle.tenant_registry.specs.InForce.{CameOf}
+use Rattle.tenant_registry.proofs.Answered.{if_ok, on_err}
 use Rattle.tenant_shard.specs.declared.step.Outcome.TheVariants as outcomes
 use Rattle.tenant_shard.specs.declared.waiting.Waiting.{Waiting}
-use Rattle.trace_service.specs.Comings.{Present}
-use Rattle.trace_service.specs.InForce.{CameOf}
-use Rattle.trace_service.specs.Roster.{entry_of}
 use Rattle.trace_service.specs.Shown.{AreFigures, AreLooked, no_look, look_more, AdminData, IsLooked, IsSeen, LooksMore, IsOfService, IsShown, let_in, not_let_in, without_memory, route_in, Shows, ShowsTenant, shown, nobody, left, gone, OnlyLooks, OnlyLooksIf, is_for_figures, may_look, nothing, looked, refused, Tells, told_of, refused_reply}
-use Rattle.trace_service.proofs.Replies.{if_ok, on_err}
 
 -- ---- what was only looked
 

@@ -6,12 +6,12 @@ use Rattle.shared_hub.specs.Logs.{CallerState}
 use Rattle.tail_settings.specs.Change.{Change, admit, strike, struck, admitted, or_before, after}
 use Rattle.tail_settings.specs.Fault.{FaultData}
 use Rattle.tail_settings.specs.Settings.{SettingsData}
-use Rattle.trace_service.specs.declared.in_force.Newcomer.{Newcomer}
+use Rattle.tenant_registry.specs.declared.in_force.Newcomer.{Newcomer}
+use Rattle.tenant_registry.specs.InForce.{IsLetIn, IsTurnedAway}
+use Rattle.tenant_registry.proofs.Below.{AreBelow, are_below, named, last_named, back_again, named_without}
+use Rattle.tenant_registry.proofs.Came.{after_more}
 use Rattle.trace_service.specs.Comings.{Standing, IsAdded, added, not_joined, turned_away, unread}
 use Rattle.trace_service.specs.Commands.{IsAnswered, reports, adds, retires, asks_nothing, AreAnswered, no_answer, answer_more, stays, without, AreInForce, TenantsAreInForce}
-use Rattle.trace_service.specs.InForce.{IsLetIn, IsTurnedAway}
-use Rattle.trace_service.proofs.Below.{AreBelow, are_below, named, last_named, back_again, named_without}
-use Rattle.trace_service.proofs.Came.{after_more}
 
 module _ (first : SettingsData) (below : AreBelow first) where
   -- the settings after one change more

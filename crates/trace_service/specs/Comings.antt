@@ -1,25 +1,23 @@
 -- What came of a line that asks for a tenant to come. This project's own rule.
-use Rattle.std.specs.Prelude.{◌≡◌, ℕ, ◌%◌, List, [], ◌∷◌, ◌++◌, codes, Option, Some, None, Ok, string_bytes}
+use Rattle.std.specs.Prelude.{◌≡◌, ℕ, ◌%◌, List, [], ◌∷◌, ◌++◌, Option, Some, None, Ok, string_bytes}
 use Rattle.machine_hub.specs.declared.receipt.Receipt.{Receipt}
 use Rattle.machine_hub.specs.Hub.{IsRefusedOn}
-use Rattle.replay_script.specs.Answer.{added_text, refused_text}
+use Rattle.replay_script.specs.Answer.{added_text}
 use Rattle.service_runtime.specs.Documents.{Reads}
 use Rattle.shared_hub.specs.Logs.{CallerState, IsStepOn}
 use Rattle.tail_settings.specs.Change.{Change, admit, strike, after}
-use Rattle.tail_settings.specs.Fault.{FaultData, fault_number}
+use Rattle.tail_settings.specs.Fault.{FaultData}
 use Rattle.tail_settings.specs.Settings.{SettingsData}
+use Rattle.tenant_registry.specs.declared.documents.NotAdded.{NotAdded}
+use Rattle.tenant_registry.specs.declared.documents.NotAdded.TheVariants.{Refused, OutOfMemory}
+use Rattle.tenant_registry.specs.declared.in_force.Newcomer.{Newcomer}
+use Rattle.tenant_registry.specs.Documents.{IsUnread}
+use Rattle.tenant_registry.specs.InForce.{IsNewcomer, IsLetIn, IsTurnedAway}
+use Rattle.tenant_registry.specs.NotAdded.{not_added_text, why_not}
+use Rattle.tenant_registry.specs.Roster.{Present}
 use Rattle.tenant_shard.specs.declared.step.Step.TheVariants as steps
 use Rattle.tenant_shard.specs.declared.step.Outcome.{Outcome}
 use Rattle.tenant_shard.specs.declared.step.Outcome.TheVariants as outcomes
-use Rattle.trace_service.specs.declared.comings.NotAdded.{NotAdded}
-use Rattle.trace_service.specs.declared.comings.NotAdded.TheVariants.{Refused, OutOfMemory}
-use Rattle.trace_service.specs.declared.in_force.Newcomer.{Newcomer}
-use Rattle.trace_service.specs.Documents.{IsUnread}
-use Rattle.trace_service.specs.InForce.{IsNewcomer, IsLetIn, IsTurnedAway}
-
--- the tenants that are present, by number and name, in the order of their numbers
-abbrev pub Present : Type 0
-Present = List (ℕ × List ℕ)
 
 -- who is present, and all changes that were made of the settings at the start, in their order
 pub record Standing : Type 0 where
@@ -34,16 +32,6 @@ unchanged present = record { present = present; changes = [] }
 abbrev pub refusal_in : Outcome → Option ℕ
 refusal_in (outcomes.Refused tenant number) = Some number
 refusal_in _ = None
-
--- why no tenant came, as it is printed
-abbrev pub not_added_text : NotAdded → List ℕ
-not_added_text (Refused number) = refused_text (codes "add") number
-not_added_text OutOfMemory = codes "refused add memory\n"
-
--- what is told of a document's fault, or of refused memory
-abbrev pub why_not : Option FaultData → NotAdded
-why_not (Some fault) = Refused (fault_number fault)
-why_not None = OutOfMemory
 
 -- a newcomer joined its shard: it is present then, and so it is printed
 pub record IsJoined (shards : ℕ) (newcomer : Newcomer) (present : Present) (old : CallerState) (left : Present)

@@ -13,6 +13,7 @@ use Rattle.service_runtime.specs.Output.{Output, IsPut}
 use Rattle.shared_hub.specs.Logs.{CallerState, IsStepOn, IsEmptyOn}
 use Rattle.tail_settings.specs.Change.{strike, after}
 use Rattle.tail_settings.specs.Settings.{SettingsData}
+use Rattle.tenant_registry.specs.Roster.{Present}
 use Rattle.tenant_shard.specs.declared.step.Step.{Step}
 use Rattle.tenant_shard.specs.declared.step.Step.TheVariants as steps
 use Rattle.tenant_shard.specs.declared.step.Outcome.{Outcome}
@@ -20,7 +21,7 @@ use Rattle.tenant_shard.specs.declared.step.Outcome.TheVariants as outcomes
 use Rattle.tenant_shard.specs.Outcomes.{not_empty}
 use Rattle.trace_service.specs.declared.chore.Chore.{Chore}
 use Rattle.trace_service.specs.declared.chore.Chore.TheVariants.{Report, Drain, Retire}
-use Rattle.trace_service.specs.Comings.{Present, Standing, unchanged, IsAdded}
+use Rattle.trace_service.specs.Comings.{Standing, unchanged, IsAdded}
 
 -- the line asks for nothing: for the counters of nobody who is present, for nobody to come, and for nobody to go
 pub record AsksNothing (present : Present) (line : List ℕ) : Type 0 where

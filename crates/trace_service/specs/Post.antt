@@ -1,46 +1,21 @@
 -- What becomes of a body that is posted, and what its sender is told (OTLP/HTTP).
-use Rattle.std.specs.Prelude.{◌≡◌, ℕ, ◌%◌, ◌<◌, List, [], ◌⊎◌, codes, ◌∷◌, length, Option, Some, None}
+use Rattle.std.specs.Prelude.{◌≡◌, ℕ, ◌%◌, List, [], ◌∷◌, Option, Some, None}
 use Rattle.http_edge.specs.Message.{Request, Response}
-use Rattle.http_edge.specs.Reply.{status_body}
-use Rattle.http_edge.specs.declared.message.Allow.TheVariants as methods
-use Rattle.http_edge.specs.declared.message.MediaType.TheVariants.{Protobuf}
 use Rattle.machine_hub.specs.declared.receipt.Receipt.{Receipt}
 use Rattle.machine_hub.specs.Hub.{IsRefusedOn}
 use Rattle.otlp_front.specs.Route.{Route, names_in, route_of, post, refuse, unknown_tenant}
 use Rattle.otlp_prepare.specs.Prepared.{PreparedData, prepared_of}
 use Rattle.otlp_read.specs.Value.{IsValue}
 use Rattle.otlp_trace.specs.Data.{RequestData}
-use Rattle.otlp_trace.specs.Text.{refusal_text}
 use Rattle.service_runtime.specs.Moments.{Rises}
 use Rattle.shared_hub.specs.Logs.{CallerState, IsStepOn}
 use Rattle.tail_settings.specs.Section.{SectionData}
 use Rattle.tail_settings.specs.Settings.{SettingsData, section_at}
+use Rattle.tenant_registry.specs.InForce.{CameOf}
+use Rattle.tenant_registry.specs.Replies.{answer, bad_request, no_memory, MayTell}
 use Rattle.tenant_shard.specs.declared.step.Step.TheVariants as steps
 use Rattle.tenant_shard.specs.declared.step.Outcome.{Outcome}
 use Rattle.tenant_shard.specs.declared.step.Outcome.TheVariants as outcomes
-use Rattle.trace_service.specs.InForce.{CameOf}
-
--- an answer of this status and content
-abbrev pub answer : ℕ → List ℕ → Response
-answer status body = record { status = status; media = Protobuf; allow = methods.Post; body = body }
-
--- the body has no value: a `google.rpc.Status` with this message alone
-abbrev pub bad_request : Response
-bad_request = answer 400 (refusal_text (codes "bad protobuf"))
-
--- a `google.rpc.Status` with its message alone is spelled alike before a body is looked at and behind that; messages of
--- no byte, and of 128 bytes and more, aren't told before
-abbrev pub StatusesAgree : Type 0
-StatusesAgree =
-    (message : List ℕ) → 0 < length message → length message < 128 → status_body message ≡ refusal_text message
-
--- memory was refused
-abbrev pub no_memory : Response
-no_memory = answer 503 []
-
--- the sender is told so, or that memory was refused
-abbrev pub MayTell : Response → Response → Type 0
-MayTell due told = (told ≡ due) ⊎ (told ≡ no_memory)
 
 -- what the sender of a body is told of its outcome: the shard's reply; or that there is no such tenant, where the shard
 -- refused the step

@@ -30,15 +30,15 @@ use Rattle.service_runtime.specs.declared.admin_port.AdminPort.{AdminPort}
 use Rattle.shared_hub.specs.Logs.{CallerState, IsLookOn, IsStepOn}
 use Rattle.tail_settings.specs.Section.{SectionData}
 use Rattle.tail_settings.specs.Settings.{SettingsData, number_of, section_at}
+use Rattle.tenant_registry.specs.Changed.{TellsAdding, TellsRetiring}
+use Rattle.tenant_registry.specs.Roster.{Present}
+use Rattle.tenant_registry.specs.InForce.{CameOf}
+use Rattle.tenant_registry.specs.Replies.{no_memory}
+use Rattle.tenant_registry.specs.declared.roster.Present.{Present as Entry}
 use Rattle.tenant_shard.specs.declared.step.Step.TheVariants as steps
 use Rattle.tenant_shard.specs.declared.step.Outcome.{Outcome}
 use Rattle.tenant_shard.specs.declared.step.Outcome.TheVariants as outcomes
 use Rattle.tenant_shard.specs.declared.waiting.Waiting.{Waiting}
-use Rattle.trace_service.specs.Changed.{TellsAdding, TellsRetiring}
-use Rattle.trace_service.specs.Comings.{Present}
-use Rattle.trace_service.specs.InForce.{CameOf}
-use Rattle.trace_service.specs.Post.{no_memory}
-use Rattle.trace_service.specs.declared.roster.Present.{Present as Entry}
 use Rattle.trace_service.specs.declared.shared.ServiceLimits.{ServiceLimits}
 
 -- what an outcome tells of a tenant's spans: the counters of this ledger; or none, of one that has gone, or where what

@@ -11,8 +11,9 @@ use Rattle.shard_machine.specs.MachineState.{MachineState, MachineDoes}
 use Rattle.shared_hub.specs.Logs.{CallerState, LoggedShard, AreLogged, AreOneRun, AreOneHistory}
 use Rattle.shared_hub.specs.Shards.{AreOpened}
 use Rattle.tail_settings.specs.Settings.{SettingsData}
+use Rattle.tenant_registry.specs.Roster.{Present}
 use Rattle.trace_service.specs.Audit.{audit_text, IsFollowed}
-use Rattle.trace_service.specs.Comings.{Present, Standing, unchanged}
+use Rattle.trace_service.specs.Comings.{Standing, unchanged}
 use Rattle.trace_service.specs.Commands.{AreDrained, AreEmptyOn, AreReported, AreCommandsRead, AreInForce}
 use Rattle.trace_service.specs.Jobs.{AreThreads}
 

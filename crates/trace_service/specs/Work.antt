@@ -1,6 +1,5 @@
 -- What the contexts of threads do to the shards. This project's own rule.
-use Rattle.std.specs.Prelude.{◌≡◌, ℕ, ◌%◌, [], ◌⊎◌, Option}
-use Rattle.atomic_table.specs.Seated.{TableId}
+use Rattle.std.specs.Prelude.{◌≡◌, ℕ, ◌%◌, ◌⊎◌, Option}
 use Rattle.export_edge.specs.declared.work.TurnResult.{TurnResult}
 use Rattle.export_edge.specs.declared.work.TurnResult.TheVariants as turned
 use Rattle.export_edge.specs.Work.{Turn, Given}
@@ -10,6 +9,7 @@ use Rattle.machine_hub.specs.Hub.{IsRefusedOn}
 use Rattle.send_retry.specs.declared.answer.Answer.{Answer}
 use Rattle.send_retry.specs.Class.{answer_view}
 use Rattle.shared_hub.specs.Logs.{CallerState, IsStepOn, IsAnswerOn}
+use Rattle.tenant_registry.specs.Noted.{no_table}
 use Rattle.tenant_shard.specs.declared.step.Step.TheVariants as steps
 use Rattle.tenant_shard.specs.declared.step.Outcome.{Outcome}
 use Rattle.tenant_shard.specs.declared.step.Outcome.TheVariants as outcomes
@@ -38,18 +38,6 @@ pub record TakesAnswer (old new : CallerState) (shards : ℕ) (g : Given) : Type
 -- memory was refused, before the answer was handed in or then
 abbrev pub RefusesAnswer : CallerState → CallerState → ℕ → Given → Type 0
 RefusesAnswer old new shards g = (new ≡ old) ⊎ IsRefusedOn old new (g.tenant % shards)
-
--- the name of no table
-abbrev pub no_table : TableId
-no_table = record {
-  words = 0;
-  slots = 0;
-  views_name = 0;
-  atom = 0;
-  block = 0;
-  offset = 0;
-  slot_names = [];
-}
 
 -- the name of no lane
 abbrev pub no_lane : LaneName

@@ -13,15 +13,12 @@ ghost use Rattle.service_runtime.specs.LastAnswers.{IsAnswered};
 ghost use Rattle.service_runtime.specs.Receiving.{IsTalk};
 ghost use Rattle.service_runtime.specs.Token.{is_let_in};
 ghost use Rattle.service_runtime.specs.declared.desk.Asked.{Asked as AskedCode};
-ghost use Rattle.trace_service.specs.Changed.{TellsAdding};
-ghost use Rattle.trace_service.specs.Roster.{entry_of};
+ghost use Rattle.tenant_registry.specs.Changed.{TellsAdding};
+ghost use Rattle.tenant_registry.specs.Roster.{entry_of};
 ghost use Rattle.trace_service.specs.Shown.{AreFigures, AreLooked, IsKnown, IsLooked, IsNobody, IsOfService, IsSeen, IsShown, OnlyLooks, LooksMore, OnlyLooksIf, ShowsMetrics, ShowsReply, ShowsTenant, ShowsTenants, Tells, TellsGoing, TellsReadiness, admin_of, drained_reply, is_for_figures, may_look, page_reply, refused_reply, told_of, usage_shown};
 
-use crate::changes::{added, retired};
 use crate::context::WorkerContext;
 use crate::naming::Naming;
-use crate::post::without_memory;
-use crate::roster::Present;
 use crate::shared::ServiceLimits;
 use admin_page::PAGE;
 use admin_pages::{
@@ -42,6 +39,9 @@ use std::str;
 use std::sync::Wait;
 use std::thread::Threads;
 use std::time::{Clock, Duration};
+use tenant_registry::Present;
+use tenant_registry::changes::{added, retired};
+use tenant_registry::replies::without_memory;
 use tenant_shard::{Outcome, Waiting};
 
 /// For so many seconds is waited until a line of the input is answered.

@@ -1,81 +1,29 @@
 //! Tenants that come and go while the service runs, as lines of the input ask.
 
-ghost use Rattle.std.specs.Prelude.{◌≡◌, ◌<◌, ◌%◌, Ok, length, string_bytes, vec_len, vec_capacity, true, false, IfOk, IfErr};
-ghost use Rattle.std.specs.IoError.{error_kind};
+ghost use Rattle.std.specs.Prelude.{◌≡◌, ◌%◌, length, true, false, IfOk, IfErr};
 ghost use Rattle.shared_hub.specs.Logs.{IsEmptyOn};
-ghost use Rattle.tail_settings.specs.Fault.{fault_view};
-ghost use Rattle.trace_service.specs.Comings.{IsAdded, IsJoined, IsNotJoined, IsStruck, not_added_text, why_not};
+ghost use Rattle.tenant_registry.specs.NotAdded.{not_added_text};
+ghost use Rattle.tenant_registry.specs.Roster.{HasRoom, present_in};
+ghost use Rattle.trace_service.specs.Comings.{IsAdded, IsJoined, IsNotJoined, IsStruck};
 ghost use Rattle.trace_service.specs.Commands.{left_by, stays};
 ghost use Rattle.trace_service.specs.Control.{Adds, RetiresNamed, standing_of, standing_with};
-ghost use Rattle.trace_service.specs.Documents.{IsOfReading, IsUnread};
-ghost use Rattle.trace_service.specs.Roster.{present_in};
-ghost use Rattle.trace_service.specs.declared.comings.NotAdded.TheVariants as why;
 
 use crate::chore::Chore;
 use crate::control::Control;
-use crate::in_force::Newcomer;
 use crate::naming::Naming;
-use crate::registrar::Registrar;
 use crate::reports::CommandReply;
-use crate::roster::Roster;
 use export_edge::Beat;
 use service_runtime::{Documents, write_text};
 use shared_hub::HubFault;
-use std::alloc::AllocError;
-use std::io::{ErrorKind, Write};
+use std::io::Write;
 use std::net::{Net, TcpListener, TcpStream};
 use std::sync::Wait;
 use std::time::Clock;
-use std::{io, str};
-use tail_settings::SettingsFault;
+use tenant_registry::{Newcomer, NotAdded, Registrar, Roster, document};
 use tenant_shard::{Outcome, Step};
-
-/// What is told where a file can't be read, or has no text: that it has no document.
-const NOT_READ: u8 = 10;
 
 /// A tenant that was to go stays for this reason: it wasn't empty.
 const NOT_EMPTY: u8 = 26;
-
-/// Why no tenant came.
-#[derive(Clone, Copy, PartialEq, Eq, Debug)]
-pub(crate) enum NotAdded {
-    /// By the number of the fault of the file or its document, or of the shard's refusal.
-    Refused(u8),
-    /// There was no memory.
-    OutOfMemory,
-}
-
-impl From<AllocError> for NotAdded {
-    ghost from_gives = { λ _ given. given ≡ why.OutOfMemory };
-
-    fn from(_error: AllocError) -> NotAdded {
-        NotAdded::OutOfMemory
-    }
-}
-
-/// Of a file only the want of memory is told apart.
-impl From<io::Error> for NotAdded {
-    ghost from_gives = { λ error given. IsOfReading (error_kind error) given };
-
-    fn from(error: io::Error) -> NotAdded {
-        if error.kind() == ErrorKind::OutOfMemory {
-            NotAdded::OutOfMemory
-        } else {
-            NotAdded::Refused(NOT_READ)
-        }
-    }
-}
-
-impl From<SettingsFault> for NotAdded {
-    ghost from_gives = { λ fault given. given ≡ why_not (fault_view fault) };
-
-    fn from(fault: SettingsFault) -> NotAdded {
-        match fault.number() {
-            Some(number) => NotAdded::Refused(number as u8),
-            None => NotAdded::OutOfMemory,
-        }
-    }
-}
 
 impl<'h, J, R, D> Control<'h, J, R, D>
 where
@@ -122,30 +70,15 @@ where
         ensures last { self.new.beat.last ≡ self.old.beat.last }
         ensures hub { self.new.context.hub ≡ self.old.context.hub }
     {
-        let text = self.document(path)?;
+        let text = document(self.documents, self.alloc, path)?;
         roster.reserve()?;
         let newcomer = self.registrar.newcomer(self.alloc, text.as_str())?;
         self.join(roster, newcomer)
     }
 
-    /// The text of the file at this path.
-    fn document(&self, path: &[u8]) -> Result<String, NotAdded>
-        ensures text { IfOk result (λ text. D.reads path.now (Ok (string_bytes text))) }
-        ensures unread { IfErr result (λ why. IsUnread D.reads path.now why) }
-    {
-        let Ok(path) = str::from_utf8(path) else {
-            return Err(NotAdded::Refused(NOT_READ));
-        };
-        let bytes = self.documents.read_document(self.alloc, path)?;
-        match String::from_utf8(bytes) {
-            Ok(text) => Ok(text),
-            Err(_) => Err(NotAdded::Refused(NOT_READ)),
-        }
-    }
-
     /// Has a newcomer join its shard: the line that says so. Where it can't, the settings forget it.
     fn join(&mut self, roster: &mut Roster, newcomer: Newcomer) -> Result<Vec<u8>, NotAdded>
-        requires { vec_len roster.old.tenants < vec_capacity roster.old.tenants }
+        requires { HasRoom roster.old }
         ensures joined { IfOk result (λ line. IsJoined (length self.old.context.hub.now) newcomer
             (present_in roster.old) self.old.context.caller (present_in roster.new)
             self.new.context.caller line.items

@@ -4,10 +4,8 @@ ghost use Rattle.std.specs.Prelude.{◌≡◌, ◌<◌, ◌≤◌, length, IfOk}
 ghost use Rattle.machine_hub.specs.Hub.{slots_of};
 ghost use Rattle.trace_service.specs.Work.{turned_of};
 
-use crate::in_force::{Destination, InForce};
 use crate::naming::Naming;
-use crate::post::{is_without_memory, post_body, refused, without_memory};
-use crate::roster::Present;
+use crate::post::post_body;
 use bytes::Bytes;
 use export_edge::{AnswerRefused, AnswerSink, Beat, JobSource, TurnResult};
 use http_edge::{Handler, HttpMessage, RefusalForm, Reply};
@@ -22,6 +20,8 @@ use std::sync::{Mutex, Wait};
 use std::thread::Threads;
 use std::time::Clock;
 use tail_settings::Section;
+use tenant_registry::replies::{is_without_memory, refused, without_memory};
+use tenant_registry::{Destination, InForce, Present};
 use tenant_shard::{Outcome, Step, Waiting};
 
 /// One thread's place at the shards.
@@ -54,10 +54,10 @@ impl<'h, J: Naming, R: Wait + Clock> WorkerContext<'h, J, R> {
     ghost use Rattle.otlp_front.specs.Route.{names_in};
     ghost use Rattle.tail_settings.specs.Section.{section_view};
     ghost use Rattle.tail_settings.specs.Settings.{SettingsData, number_of, section_at};
+    ghost use Rattle.tenant_registry.specs.InForce.{CameOf};
+    ghost use Rattle.tenant_registry.specs.Roster.{entry_of};
     ghost use Rattle.tenant_shard.specs.declared.step.Step.TheVariants as steps;
     ghost use Rattle.tenant_shard.specs.declared.waiting.Waiting.{Waiting};
-    ghost use Rattle.trace_service.specs.InForce.{CameOf};
-    ghost use Rattle.trace_service.specs.Roster.{entry_of};
     ghost use Rattle.machine_hub.specs.Hub.{IsRefusedOn};
     ghost use Rattle.shared_hub.specs.Logs.{IsStepOn, IsEmptyOn, IsLookOn};
     ghost use Rattle.shared_hub.specs.declared.fault.HubFault.TheVariants as faults;
@@ -430,7 +430,7 @@ impl<'h, J: Naming, R: Wait + Clock> WorkerContext<'h, J, R> {
     ghost use Rattle.otlp_front.specs.Route.{names_in, route_of};
     ghost use Rattle.tail_settings.specs.Section.{section_view};
     ghost use Rattle.tail_settings.specs.Settings.{SettingsData};
-    ghost use Rattle.trace_service.specs.InForce.{CameOf, IsWhere};
+    ghost use Rattle.tenant_registry.specs.InForce.{CameOf, IsWhere};
     ghost use Rattle.trace_service.specs.Post.{IsHandled, IsSent};
 
     /// The reply to a message, whose body is let go of.

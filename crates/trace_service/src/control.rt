@@ -2,18 +2,16 @@
 
 ghost use Rattle.std.specs.Prelude.{◌≡◌, length, map, IfOk, OnOk, IfNone, true};
 ghost use Rattle.std.specs.Bool.{OnTrue};
+ghost use Rattle.tenant_registry.specs.Roster.{entry_of, present_in};
 ghost use Rattle.trace_service.specs.Control.{Answers, Directs, ReadsCommands, Reports, ReportsNamed};
 ghost use Rattle.trace_service.specs.Commands.{AreDrained, AreEmptyOn, AreReported, IsMade, AsksNothing, step_of};
-ghost use Rattle.trace_service.specs.Roster.{entry_of, present_in};
 ghost use Rattle.trace_service.specs.CommandReply.{reply_text};
 
 use crate::beside::Director;
 use crate::chore::Chore;
 use crate::context::WorkerContext;
 use crate::naming::Naming;
-use crate::registrar::Registrar;
 use crate::reports::{CommandReply, line_of};
-use crate::roster::{Present, Roster};
 use crate::service::ServiceFault;
 use export_edge::Beat;
 use service_runtime::{
@@ -25,6 +23,7 @@ use std::mem;
 use std::net::{Net, TcpListener, TcpStream};
 use std::sync::Wait;
 use std::time::Clock;
+use tenant_registry::{Present, Registrar, Roster};
 use tenant_shard::Outcome;
 
 /// Who reads the input: the tenants that it knows, its context, and how it reaches the listener.

@@ -1,23 +1,22 @@
 //! One body, posted to its tenant's shard.
 
-ghost use Rattle.std.specs.Prelude.{◌≡◌, ◌<◌, ◌≤◌, length, IfOk};
+ghost use Rattle.std.specs.Prelude.{◌≡◌, ◌<◌, ◌≤◌, length};
 ghost use Rattle.http_edge.specs.Seen.{response_of};
 ghost use Rattle.machine_hub.specs.Hub.{slots_of};
-ghost use Rattle.otlp_front.specs.Seen.{response_for};
 ghost use Rattle.tail_settings.specs.Section.{section_view};
-ghost use Rattle.trace_service.specs.Post.{IsPosted, MayTell, Tells, bad_request, no_memory};
+ghost use Rattle.trace_service.specs.Post.{IsPosted, Tells};
 
 use bytes::Bytes;
 use http_edge::{Allow, MediaType, Reply};
 use otlp_front::RouteRefusal;
 use otlp_prepare::{Refusal, prepare};
-use otlp_trace::write_status;
 use service_runtime::Gates;
 use shared_hub::{Caller, HubFault, SharedHub};
-use std::alloc::{AllocError, Global};
+use std::alloc::Global;
 use std::sync::Wait;
 use std::thread::Threads;
 use tail_settings::Section;
+use tenant_registry::replies::{bad_protobuf, refused, without_memory};
 use tenant_shard::{Outcome, Step};
 
 /// Posts a body that came at the moment `now`, in milliseconds, to the shard of the tenant with this number and
@@ -71,54 +70,4 @@ fn http_reply(alloc: Global, outcome: Outcome) -> Reply
         },
         _ => refused(alloc, RouteRefusal::UnknownTenant),
     }
-}
-
-/// The reply to who is refused so.
-pub(crate) fn refused(alloc: Global, refusal: RouteRefusal) -> Reply
-    ensures { MayTell (response_for refusal) (response_of result) }
-{
-    match refusal.reply(alloc) {
-        Ok(reply) => reply,
-        Err(AllocError) => without_memory(alloc),
-    }
-}
-
-/// The reply to a body that has no value.
-fn bad_protobuf(alloc: Global) -> Reply
-    ensures { MayTell bad_request (response_of result) }
-{
-    match bad_protobuf_reply(alloc) {
-        Ok(reply) => reply,
-        Err(AllocError) => without_memory(alloc),
-    }
-}
-
-fn bad_protobuf_reply(alloc: Global) -> Result<Reply, AllocError>
-    ensures { IfOk result (λ reply. response_of reply ≡ bad_request) }
-{
-    let mut body = Vec::new(alloc);
-    write_status(alloc, &mut body, "bad protobuf")?;
-    Ok(Reply {
-        status: 400,
-        media: MediaType::Protobuf,
-        allow: Allow::Post,
-        body,
-    })
-}
-
-/// The reply that takes no memory.
-pub(crate) fn without_memory(alloc: Global) -> Reply
-    ensures { response_of result ≡ no_memory }
-{
-    Reply {
-        status: 503,
-        media: MediaType::Protobuf,
-        allow: Allow::Post,
-        body: Vec::new(alloc),
-    }
-}
-
-/// Whether it is that reply.
-pub(crate) fn is_without_memory(reply: &Reply) -> bool {
-    reply.status == 503 && reply.body.is_empty()
 }

@@ -11,23 +11,19 @@ ghost use Rattle.shared_hub.specs.Shards.{AreOpened, kept};
 ghost use Rattle.tail_settings.specs.Settings.{SettingsData, settings_view};
 ghost use Rattle.shard_machine.specs.MachineState.{MachineDoes};
 ghost use Rattle.shared_hub.specs.declared.fault.HubFault.TheVariants as hub_faults;
+ghost use Rattle.tenant_registry.specs.Roster.{present_in};
 ghost use Rattle.trace_service.specs.Control.{Directs};
 ghost use Rattle.trace_service.specs.Fault.{IsOfLine};
 ghost use Rattle.trace_service.specs.Jobs.{AreThreads, IsThread};
-ghost use Rattle.trace_service.specs.Roster.{present_in};
 ghost use Rattle.trace_service.specs.Whole.{IsCourseIfOk, IsServed};
 ghost use Rattle.trace_service.specs.declared.service.ServiceFault.TheVariants as faults;
 
 use crate::assignment::{assign_threads, collect_callers};
 use crate::beside::work_beside;
 use crate::control::Control;
-use crate::in_force::InForce;
 use crate::naming::Naming;
-use crate::noted::{Change, ChangeList, Noted};
 use crate::options::ServiceOptions;
-use crate::registrar::Registrar;
 use crate::reports::write_audit;
-use crate::roster::Roster;
 use crate::shared::{ServiceLimits, Shared, Workplace};
 use crate::start::{Console, ServiceStart};
 use crate::workers::{Worker, work_all};
@@ -44,6 +40,7 @@ use std::sync::{Mutex, Wait};
 use std::thread::Threads;
 use std::time::Clock;
 use tail_settings::Settings;
+use tenant_registry::{Change, ChangeList, InForce, Noted, Registrar, Roster};
 use thiserror::Error;
 
 /// Why a service ended early, or what it met on its way.

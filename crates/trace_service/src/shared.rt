@@ -4,9 +4,7 @@ ghost use Rattle.std.specs.Prelude.{◌≡◌, ◌<◌, ◌≤◌, None, IfOk, l
 ghost use Rattle.machine_hub.specs.Hub.{slots_of};
 
 use crate::context::WorkerContext;
-use crate::in_force::InForce;
 use crate::naming::Naming;
-use crate::noted::ChangeList;
 use crate::options::ServiceOptions;
 use crate::start::ServiceStart;
 use job_lane::Lane;
@@ -20,6 +18,7 @@ use std::net::TcpListener;
 use std::sync::{Mutex, Wait};
 use std::time::{Clock, Duration, Instant};
 use tail_settings::GlobalSettings;
+use tenant_registry::{ChangeList, InForce};
 
 /// How many threads there are of a kind, how long they wait for those outside, and how much they hold of what comes.
 /// It stays as the settings change.

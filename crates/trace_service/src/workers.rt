@@ -8,10 +8,8 @@ ghost use Rattle.trace_service.specs.Shown.{OnlyLooks};
 
 use crate::admin_handler::{AdminHandler, serve_all};
 use crate::context::WorkerContext;
-use crate::in_force::BackEnds;
 use crate::naming::Naming;
 use crate::shared::Shared;
-use crate::told::ToldBackEnd;
 use export_edge::{Beat, TcpBackEnd, run_sender, run_turner};
 use http_edge::{EdgeFault, Handler, serve};
 use http_line::StreamLine;
@@ -25,6 +23,7 @@ use std::net::{Net, TcpListener, TcpStream};
 use std::sync::Wait;
 use std::thread::{Threads, for_each_mut};
 use std::time::Clock;
+use tenant_registry::{BackEnds, ToldBackEnd};
 
 /// What a thread does.
 #[derive(Clone, Copy, PartialEq, Eq, Debug)]

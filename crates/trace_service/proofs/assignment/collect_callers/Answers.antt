@@ -20,7 +20,7 @@ loop-worker-init g c = record {
 
 pub loop-worker-preserved : goal.loop-worker-preserved
 loop-worker-preserved g c =
-    let first = g.J.Naming.first in
+    let first = g.J.SettingsNaming.first in
     let shards = length g.J.Naming.slots in
     let fresh = g.J.Naming.fresh in
     let P : CallerState → Type 0 = λ x. slots_of x ≡ g.J.Naming.slots in

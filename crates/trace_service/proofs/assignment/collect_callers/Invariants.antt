@@ -6,13 +6,13 @@ use Rattle.trace_service.proofs.assignment.collect_callers.Given as goal
 
 abbrev pub invariant-loop-worker : goal.invariant-loop-worker
 invariant-loop-worker g l = record {
-  did : All (λ w. IsThread g.J.Naming.first (length g.J.Naming.slots) g.J.Naming.fresh w.context.caller w.seat) l.workers.items;
+  did : All (λ w. IsThread g.J.SettingsNaming.first (length g.J.Naming.slots) g.J.Naming.fresh w.context.caller w.seat) l.workers.items;
   theirs : AreCallersOf g.J.Naming.slots l.callers.items;
   count : vec_len l.callers + vec_len l.workers ≡ 1 + vec_len l.fn.workers;
   own : (others : List CallerState) × (l.callers.items ≡ l.fn.own ∷ others);
   same_lane : All (λ s. s.lane ≡ g.J.Naming.lane) l.seats.items;
   seats : vec_len l.seats + vec_len l.workers ≡ vec_len l.fn.workers;
-  threads : AreThreads g.J.Naming.first (length g.J.Naming.slots) g.J.Naming.fresh l.callers.items l.seats.items;
+  threads : AreThreads g.J.SettingsNaming.first (length g.J.Naming.slots) g.J.Naming.fresh l.callers.items l.seats.items;
 }
 
 abbrev pub decreases-loop-worker : goal.decreases-loop-worker

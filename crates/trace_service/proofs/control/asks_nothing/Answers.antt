@@ -1,6 +1,6 @@
 use Rattle.std.proofs.Common.{◌≡◌, ◌++◌, codes, rules}
+use Rattle.tenant_registry.specs.Roster.{present_in}
 use Rattle.trace_service.specs.Commands.{AsksNothing}
-use Rattle.trace_service.specs.Roster.{present_in}
 use Rattle.trace_service.proofs.Asked.{nobody_found, report_of_nobody, retires_nobody}
 use Rattle.trace_service.proofs.control.asks_nothing.Goals as goal
 

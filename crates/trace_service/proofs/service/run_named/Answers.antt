@@ -4,7 +4,7 @@ use Rattle.machine_hub.specs.Hub.{new_caller}
 use Rattle.otlp_front.specs.Route.{names_in}
 use Rattle.service_runtime.specs.Output.{Output}
 use Rattle.trace_service.specs.Audit.{audit_text, IsFollowed}
-use Rattle.trace_service.specs.Roster.{present_in}
+use Rattle.tenant_registry.specs.Roster.{present_in}
 use Rattle.trace_service.proofs.Audited.{are_kept, are_numbered}
 use Rattle.trace_service.proofs.Coursed.{course_told}
 use Rattle.trace_service.proofs.Jobs.{threads_told}
@@ -32,7 +32,7 @@ returns g c =
     let text : ℕ → Output = λ lost. (written, lost) in
     let ended : Output = (g.O.Write.contents c.write_audit.new.output, c.write_audit.new.lost) in
     let found : c.unwrap_or-lost.result ≡ before = rw c.in_ok-ended.was at c.unwrap_or-lost.ensures in
-    let course = course_told (is_some c.args.start.now.admin) g.D.Documents.reads c.in_ok-callers.ended before g.J.Naming.first table (present_in c.in_ok-roster.roster) (names_in table).tenants (length slots) table.global.shards
+    let course = course_told (is_some c.args.start.now.admin) g.D.Documents.reads c.in_ok-callers.ended before g.J.SettingsNaming.first table (present_in c.in_ok-roster.roster) (names_in table).tenants (length slots) table.global.shards
     (g.I.Read.remaining c.args.console.now.input) (g.O.Write.contents c.args.console.now.output) written g.J.Naming.fresh (new_caller slots homes) callers
     c.in_ok-ended.was (sym c.requires.first) c.in_ok-roster.ensures c.requires.shards c.requires.fresh c.in_ok-callers.ensures.course in
     let below = All-map (λ (t : TenantData). t.number < table.next) tenant_view c.args.settings.tenants.entries c.args.settings.below in
@@ -49,7 +49,7 @@ returns g c =
       one_run = c.end_hub-shards.ensures.one_run table c.requires.opened;
       one_history = c.end_hub-shards.ensures.one_history table c.requires.opened;
       seats = c.in_ok-callers.seats.items;
-      threads = threads_told g.J.Naming.first table (length slots) table.global.shards g.J.Naming.fresh (new_caller slots homes) callers c.in_ok-callers.seats.items
+      threads = threads_told g.J.SettingsNaming.first table (length slots) table.global.shards g.J.Naming.fresh (new_caller slots homes) callers c.in_ok-callers.seats.items
           (sym c.requires.first) c.requires.shards c.requires.fresh c.in_ok-callers.ensures.threads;
       taken = c.close-totals.result.taken;
       left = c.close-totals.result.left;

@@ -6,5 +6,5 @@ pub returns : goal.returns
 returns g c = record {
   did = λ k d h.
       let each = (c.for_each_mut.ensures k d (omega (arith, h, c.for_each_mut.auto.s))).1 in
-      subst (λ w. IsThread g.J.Naming.first (length g.J.Naming.slots) g.J.Naming.fresh w.context.caller w.seat) each.left each.call;
+      subst (λ w. IsThread g.J.SettingsNaming.first (length g.J.Naming.slots) g.J.Naming.fresh w.context.caller w.seat) each.left each.call;
 }

@@ -1,6 +1,6 @@
 use Rattle.std.proofs.Common.{◌∙◌, map, length}
 use Rattle.admin_pages.specs.Figures.{tenant_of}
-use Rattle.trace_service.proofs.Replies.{on_err}
+use Rattle.tenant_registry.proofs.Answered.{on_err}
 use Rattle.trace_service.proofs.Shown.{looks_more, on_ok, one_looked, one_refused}
 use Rattle.trace_service.proofs.admin_handler.AdminHandler.add_figures.Goals as goal
 

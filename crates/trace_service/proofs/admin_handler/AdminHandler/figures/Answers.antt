@@ -1,5 +1,5 @@
+use Rattle.tenant_registry.proofs.Answered.{on_err}
 use Rattle.trace_service.specs.Shown.{nothing}
-use Rattle.trace_service.proofs.Replies.{on_err}
 use Rattle.trace_service.proofs.Shown.{figures_found}
 use Rattle.trace_service.proofs.admin_handler.AdminHandler.figures.Goals as goal
 

@@ -1,9 +1,9 @@
 use Rattle.std.proofs.Common.{length, map, refl, subst, ◌∙◌}
 use Rattle.std.proofs.lemmas.List.{take_all}
 use Rattle.admin_pages.specs.Figures.{tenant_of}
-use Rattle.trace_service.specs.Roster.{entry_of}
+use Rattle.tenant_registry.specs.Roster.{entry_of}
+use Rattle.tenant_registry.proofs.Answered.{on_err}
 use Rattle.trace_service.specs.Shown.{AreLooked, no_look}
-use Rattle.trace_service.proofs.Replies.{on_err}
 use Rattle.trace_service.proofs.Shown.{all_looked, looked_more, looks_then}
 use Rattle.trace_service.proofs.admin_handler.AdminHandler.figures_of.Goals as goal
 

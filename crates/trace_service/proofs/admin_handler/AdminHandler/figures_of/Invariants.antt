@@ -1,6 +1,6 @@
 use Rattle.std.proofs.Common.{◌≡◌, length, map, take}
 use Rattle.admin_pages.specs.Figures.{tenant_of}
-use Rattle.trace_service.specs.Roster.{entry_of}
+use Rattle.tenant_registry.specs.Roster.{entry_of}
 use Rattle.trace_service.specs.Shown.{AreLooked, admin_of}
 use Rattle.trace_service.proofs.admin_handler.AdminHandler.figures_of.Given as goal
 

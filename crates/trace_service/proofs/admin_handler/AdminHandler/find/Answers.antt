@@ -10,4 +10,4 @@ pub returns-in_err-number-in-Ok-clause-nobody : goal.returns-in_err-number-in-Ok
 returns-in_err-number-in-Ok-clause-nobody g c none =
     let found = c.number.ensures in
     let nobody : number_of found.0 c.in-Ok.name.now ≡ None = sym found.2 ∙ c.in_err-number-in-Ok.was in
-    subst (λ n. IsNobody g.J.Naming.first n) c.in-Ok.ensures.cases.0 (not_known found.0 found.1 nobody)
+    subst (λ n. IsNobody g.J.SettingsNaming.first n) c.in-Ok.ensures.cases.0 (not_known found.0 found.1 nobody)

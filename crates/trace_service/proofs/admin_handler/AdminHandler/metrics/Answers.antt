@@ -4,7 +4,7 @@ use Rattle.admin_pages.specs.Figures.{tenant_of}
 use Rattle.admin_pages.specs.Service.{service_text}
 use Rattle.http_edge.specs.declared.message.MediaType.TheVariants.{Metrics}
 use Rattle.service_runtime.specs.Notice.{reply_of}
-use Rattle.trace_service.proofs.Replies.{on_err}
+use Rattle.tenant_registry.proofs.Answered.{on_err}
 use Rattle.trace_service.proofs.Shown.{all_looked, looks_then, of_service, unchanged}
 use Rattle.trace_service.proofs.admin_handler.AdminHandler.metrics.Goals as goal
 

@@ -11,7 +11,7 @@ returns-then-is_over g c = record { looks = nothing; lent = refl }
 
 pub returns : goal.returns
 returns g c =
-    let first = g.J.Naming.first in
+    let first = g.J.SettingsNaming.first in
     let served = connection_looked _ (λ h. h.context.now.caller) (λ h. h.context.ghost_name)
     (λ h. admin_of h.port h.limits h.lane_capacity) first (length g.J.Naming.slots) c.args.self.now c.serve.new.self c.serve.ensures
     (λ a request told b is. (

@@ -2,9 +2,9 @@ use Rattle.std.proofs.Common.{◌≡◌, ap, codes, length, refl}
 use Rattle.admin_pages.specs.Route.{Page, Metrics, Health, Readiness, Drain, Tenants, Add, Tenant, Retire, NoSuchPath, OtherMethod, route_view}
 use Rattle.service_runtime.specs.Notice.{not_allowed, notice_of}
 use Rattle.service_runtime.specs.declared.desk.Asked.{Asked}
-use Rattle.trace_service.specs.Changed.{TellsAdding}
+use Rattle.tenant_registry.specs.Changed.{TellsAdding}
+use Rattle.tenant_registry.proofs.Answered.{on_err}
 use Rattle.trace_service.specs.Shown.{TellsGoing, TellsReadiness, admin_of, drained_reply, page_reply}
-use Rattle.trace_service.proofs.Replies.{on_err}
 use Rattle.trace_service.proofs.Shown.{looked_at, says, shown_at}
 use Rattle.trace_service.proofs.admin_handler.AdminHandler.show.Goals as goal
 
@@ -12,7 +12,7 @@ pub returns-in-Page : goal.returns-in-Page
 returns-in-Page g c =
     let caller = c.args.self.now.context.now.caller in
     record {
-      shown = shown_at c.page.result g.J.Naming.first (length c.args.self.now.context.now.hub.now)
+      shown = shown_at c.page.result g.J.SettingsNaming.first (length c.args.self.now.context.now.hub.now)
           (admin_of c.args.self.now.port c.args.self.now.limits c.args.self.now.lane_capacity)
           (route_view c.args.asked) Page c.args.document.items caller caller (ap route_view c.in-Page.is)
           (says c.page.result (λ told. told ≡ page_reply) caller caller refl c.page.ensures);
@@ -26,7 +26,7 @@ pub returns-in-Health : goal.returns-in-Health
 returns-in-Health g c =
     let caller = c.args.self.now.context.now.caller in
     record {
-      shown = shown_at c.notice.result g.J.Naming.first (length c.args.self.now.context.now.hub.now)
+      shown = shown_at c.notice.result g.J.SettingsNaming.first (length c.args.self.now.context.now.hub.now)
           (admin_of c.args.self.now.port c.args.self.now.limits c.args.self.now.lane_capacity)
           (route_view c.args.asked) Health c.args.document.items caller caller (ap route_view c.in-Health.is)
           (says c.notice.result (λ told. told ≡ notice_of 200 (codes "state") (codes "ok")) caller caller refl c.notice.ensures);
@@ -40,7 +40,7 @@ pub returns-in-Readiness : goal.returns-in-Readiness
 returns-in-Readiness g c =
     let caller = c.args.self.now.context.now.caller in
     record {
-      shown = shown_at c.readiness.result g.J.Naming.first (length c.args.self.now.context.now.hub.now)
+      shown = shown_at c.readiness.result g.J.SettingsNaming.first (length c.args.self.now.context.now.hub.now)
           (admin_of c.args.self.now.port c.args.self.now.limits c.args.self.now.lane_capacity)
           (route_view c.args.asked) Readiness c.args.document.items caller caller (ap route_view c.in-Readiness.is)
           (says c.readiness.result TellsReadiness caller caller refl c.readiness.ensures);
@@ -54,7 +54,7 @@ pub returns-in-Drain : goal.returns-in-Drain
 returns-in-Drain g c =
     let caller = c.args.self.now.context.now.caller in
     record {
-      shown = shown_at c.drain.result g.J.Naming.first (length c.args.self.now.context.now.hub.now)
+      shown = shown_at c.drain.result g.J.SettingsNaming.first (length c.args.self.now.context.now.hub.now)
           (admin_of c.args.self.now.port c.args.self.now.limits c.args.self.now.lane_capacity)
           (route_view c.args.asked) Drain c.args.document.items caller caller (ap route_view c.in-Drain.is)
           (says c.drain.result (λ told. told ≡ drained_reply) caller caller refl c.drain.ensures);
@@ -68,7 +68,7 @@ pub returns-in-Add : goal.returns-in-Add
 returns-in-Add g c =
     let caller = c.args.self.now.context.now.caller in
     record {
-      shown = shown_at c.add.result g.J.Naming.first (length c.args.self.now.context.now.hub.now)
+      shown = shown_at c.add.result g.J.SettingsNaming.first (length c.args.self.now.context.now.hub.now)
           (admin_of c.args.self.now.port c.args.self.now.limits c.args.self.now.lane_capacity)
           (route_view c.args.asked) Add c.args.document.items caller caller (ap route_view c.in-Add.is)
           (says c.add.result (λ told. (asked : Asked) × TellsAdding asked c.args.document.items told) caller caller refl c.add.ensures);
@@ -82,10 +82,10 @@ pub returns-in-Retire : goal.returns-in-Retire
 returns-in-Retire g c =
     let caller = c.args.self.now.context.now.caller in
     record {
-      shown = shown_at c.retire.result g.J.Naming.first (length c.args.self.now.context.now.hub.now)
+      shown = shown_at c.retire.result g.J.SettingsNaming.first (length c.args.self.now.context.now.hub.now)
           (admin_of c.args.self.now.port c.args.self.now.limits c.args.self.now.lane_capacity)
           (route_view c.args.asked) (Retire c.in-Retire.name.now) c.args.document.items caller caller (ap route_view c.in-Retire.is)
-          (says c.retire.result (λ told. TellsGoing g.J.Naming.first c.in-Retire.name.now told) caller caller refl c.retire.ensures);
+          (says c.retire.result (λ told. TellsGoing g.J.SettingsNaming.first c.in-Retire.name.now told) caller caller refl c.retire.ensures);
       looks = looked_at c.retire.result (length c.args.self.now.context.now.hub.now) (route_view c.args.asked) (Retire c.in-Retire.name.now) caller caller
           (ap route_view c.in-Retire.is) (on_err c.retire.result (caller ≡ caller) refl);
       same = refl;
@@ -96,7 +96,7 @@ pub returns-in-NoSuchPath : goal.returns-in-NoSuchPath
 returns-in-NoSuchPath g c =
     let caller = c.args.self.now.context.now.caller in
     record {
-      shown = shown_at c.notice-in-NoSuchPath.result g.J.Naming.first (length c.args.self.now.context.now.hub.now)
+      shown = shown_at c.notice-in-NoSuchPath.result g.J.SettingsNaming.first (length c.args.self.now.context.now.hub.now)
           (admin_of c.args.self.now.port c.args.self.now.limits c.args.self.now.lane_capacity)
           (route_view c.args.asked) NoSuchPath c.args.document.items caller caller (ap route_view c.in-NoSuchPath.is)
           (says c.notice-in-NoSuchPath.result (λ told. told ≡ notice_of 404 (codes "error") (codes "no such path")) caller caller refl c.notice-in-NoSuchPath.ensures);
@@ -110,7 +110,7 @@ pub returns-in-OtherMethod : goal.returns-in-OtherMethod
 returns-in-OtherMethod g c =
     let caller = c.args.self.now.context.now.caller in
     record {
-      shown = shown_at c.other_method.result g.J.Naming.first (length c.args.self.now.context.now.hub.now)
+      shown = shown_at c.other_method.result g.J.SettingsNaming.first (length c.args.self.now.context.now.hub.now)
           (admin_of c.args.self.now.port c.args.self.now.limits c.args.self.now.lane_capacity)
           (route_view c.args.asked) (OtherMethod c.in-OtherMethod.methods.now) c.args.document.items caller caller (ap route_view c.in-OtherMethod.is)
           (says c.other_method.result (λ told. told ≡ not_allowed c.in-OtherMethod.methods.now) caller caller refl c.other_method.ensures);
@@ -122,7 +122,7 @@ returns-in-OtherMethod g c =
 
 pub returns-in-Metrics : goal.returns-in-Metrics
 returns-in-Metrics g c = record {
-  shown = shown_at c.metrics.result g.J.Naming.first (length c.args.self.now.context.now.hub.now)
+  shown = shown_at c.metrics.result g.J.SettingsNaming.first (length c.args.self.now.context.now.hub.now)
       (admin_of c.args.self.now.port c.args.self.now.limits c.args.self.now.lane_capacity)
       (route_view c.args.asked) Metrics c.args.document.items c.args.self.now.context.now.caller _
       (ap route_view c.in-Metrics.is) c.metrics.ensures.shown;
@@ -134,7 +134,7 @@ returns-in-Metrics g c = record {
 
 pub returns-in-Tenants : goal.returns-in-Tenants
 returns-in-Tenants g c = record {
-  shown = shown_at c.tenants.result g.J.Naming.first (length c.args.self.now.context.now.hub.now)
+  shown = shown_at c.tenants.result g.J.SettingsNaming.first (length c.args.self.now.context.now.hub.now)
       (admin_of c.args.self.now.port c.args.self.now.limits c.args.self.now.lane_capacity)
       (route_view c.args.asked) Tenants c.args.document.items c.args.self.now.context.now.caller _
       (ap route_view c.in-Tenants.is) c.tenants.ensures.shown;
@@ -146,7 +146,7 @@ returns-in-Tenants g c = record {
 
 pub returns-in-Tenant : goal.returns-in-Tenant
 returns-in-Tenant g c = record {
-  shown = shown_at c.tenant.result g.J.Naming.first (length c.args.self.now.context.now.hub.now)
+  shown = shown_at c.tenant.result g.J.SettingsNaming.first (length c.args.self.now.context.now.hub.now)
       (admin_of c.args.self.now.port c.args.self.now.limits c.args.self.now.lane_capacity)
       (route_view c.args.asked) (Tenant c.in-Tenant.name.now) c.args.document.items c.args.self.now.context.now.caller _
       (ap route_view c.in-Tenant.is) c.tenant.ensures.shown;

@@ -5,15 +5,15 @@ use Rattle.http_edge.specs.declared.message.MediaType.TheVariants.{Json}
 use Rattle.service_runtime.specs.Notice.{reply_of, unknown_reply}
 use Rattle.tail_settings.specs.Section.{section_view}
 use Rattle.tail_settings.specs.Settings.{section_at}
+use Rattle.tenant_registry.proofs.Answered.{if_ok, on_err}
 use Rattle.trace_service.specs.Shown.{ShowsTenant, figures_with, gone, left, nobody, nothing, shown}
-use Rattle.trace_service.proofs.Replies.{if_ok, on_err}
 use Rattle.trace_service.proofs.Shown.{one_looked, one_refused}
 use Rattle.trace_service.proofs.admin_handler.AdminHandler.tenant.Goals as goal
 
 pub returns-in_default-clause-shown : goal.returns-in_default-clause-shown
 returns-in_default-clause-shown g c =
     if_ok c.unknown.result (λ told. told ≡ unknown_reply)
-    (λ told. ShowsTenant g.J.Naming.first (length c.args.self.now.context.now.hub.now) c.args.name.now c.args.self.now.context.now.caller c.args.self.now.context.now.caller told)
+    (λ told. ShowsTenant g.J.SettingsNaming.first (length c.args.self.now.context.now.hub.now) c.args.name.now c.args.self.now.context.now.caller c.args.self.now.context.now.caller told)
     (λ told is. nobody (c.find.ensures.nobody c.in_default.is) refl is) c.unknown.ensures
 
 pub returns-in_default-clause-looks : goal.returns-in_default-clause-looks
@@ -26,7 +26,7 @@ pub returns-in_default-2-clause-shown : goal.returns-in_default-2-clause-shown
 returns-in_default-2-clause-shown g c =
     let later = c.in_ok-section.ensures in
     if_ok c.unknown-in_default-2.result (λ told. told ≡ unknown_reply)
-    (λ told. ShowsTenant g.J.Naming.first (length c.args.self.now.context.now.hub.now) c.args.name.now c.args.self.now.context.now.caller c.args.self.now.context.now.caller told)
+    (λ told. ShowsTenant g.J.SettingsNaming.first (length c.args.self.now.context.now.hub.now) c.args.name.now c.args.self.now.context.now.caller c.args.self.now.context.now.caller told)
     (λ told is. left c.in-Some.number c.in-Some.ensures.known (later.0, later.1, sym later.2 ∙ ap (option_map section_view) c.in_default-2.is) refl is)
     c.unknown-in_default-2.ensures
 
@@ -44,7 +44,7 @@ returns-in_default-3-clause-shown g c =
     let section = c.in-Some-2.section in
     let at : section_at later.0 c.in-Some.number ≡ Some (section_view section) = sym later.2 ∙ ap (option_map section_view) c.in-Some-2.is in
     if_ok c.unknown-in_default-3.result (λ told. told ≡ unknown_reply)
-    (λ told. ShowsTenant g.J.Naming.first (length c.args.self.now.context.now.hub.now) c.args.name.now c.args.self.now.context.now.caller _ told)
+    (λ told. ShowsTenant g.J.SettingsNaming.first (length c.args.self.now.context.now.hub.now) c.args.name.now c.args.self.now.context.now.caller _ told)
     (λ told is. gone c.in-Some.number (section_view section) c.in-Some.ensures.known (later.0, later.1, at)
     (rw c.in_default-3.is at c.in_ok-counters.ensures.looked) is)
     c.unknown-in_default-3.ensures

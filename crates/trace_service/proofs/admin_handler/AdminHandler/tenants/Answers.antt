@@ -2,7 +2,7 @@ use Rattle.std.proofs.Common.{◌∙◌, ap, map}
 use Rattle.admin_pages.specs.Figures.{tenant_of}
 use Rattle.http_edge.specs.declared.message.MediaType.TheVariants.{Json}
 use Rattle.service_runtime.specs.Notice.{reply_of}
-use Rattle.trace_service.proofs.Replies.{on_err}
+use Rattle.tenant_registry.proofs.Answered.{on_err}
 use Rattle.trace_service.proofs.Shown.{all_looked}
 use Rattle.trace_service.proofs.admin_handler.AdminHandler.tenants.Goals as goal
 

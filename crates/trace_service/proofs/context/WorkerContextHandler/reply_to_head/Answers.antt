@@ -2,9 +2,9 @@ use Rattle.std.proofs.Common.{refl, sym, subst}
 use Rattle.http_edge.specs.Message.{with_body}
 use Rattle.http_edge.specs.Seen.{seen}
 use Rattle.otlp_front.specs.Route.{names_in, route_of}
-use Rattle.trace_service.specs.InForce.{IsWhere}
+use Rattle.tenant_registry.specs.InForce.{IsWhere}
+use Rattle.tenant_registry.specs.declared.in_force.Destination.TheVariants.{Nowhere}
 use Rattle.trace_service.specs.Post.{handled, no_room}
-use Rattle.trace_service.specs.declared.in_force.Destination.TheVariants.{Nowhere}
 use Rattle.trace_service.proofs.Handled.{route_with_body, sent_nowhere}
 use Rattle.trace_service.proofs.context.WorkerContextHandler.reply_to_head.Goals as goal
 

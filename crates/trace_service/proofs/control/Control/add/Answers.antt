@@ -1,5 +1,5 @@
-use Rattle.trace_service.specs.Comings.{not_added_text}
-use Rattle.trace_service.specs.declared.comings.NotAdded.TheVariants.{Refused, OutOfMemory}
+use Rattle.tenant_registry.specs.NotAdded.{not_added_text}
+use Rattle.tenant_registry.specs.declared.documents.NotAdded.TheVariants.{Refused, OutOfMemory}
 use Rattle.trace_service.proofs.control.Control.add.Goals as goal
 
 pub returns-in-Ok-clause-added : goal.returns-in-Ok-clause-added

@@ -14,7 +14,7 @@ returns g c =
     let drained = c.drain_all.ensures in
     let waited = c.await_empty.ensures in
     let hub = drained.hub ∙ heard.hub in
-    directed (is_some c.args.self.now.admin) g.D.Documents.reads c.read_commands-heard.result _ g.J.Naming.first (length c.args.self.now.context.hub.now) (standing_of c.args.self.now c.args.self.now.roster)
+    directed (is_some c.args.self.now.admin) g.D.Documents.reads c.read_commands-heard.result _ g.J.SettingsNaming.first (length c.args.self.now.context.hub.now) (standing_of c.args.self.now c.args.self.now.roster)
     c.read_commands-heard.new.roster.tenants.items c.read_commands-heard.new.self.registrar _ _
     (g.O.Write.contents c.read_commands-heard.new.output, c.read_commands-heard.new.lost) _
     _ c.read_commands-heard.new.self.context.caller c.drain_all.new.self.context.caller _

@@ -1,7 +1,7 @@
 use Rattle.std.proofs.Common.{length, map, refl, subst, ◌∙◌}
 use Rattle.std.proofs.lemmas.List.{take_all}
+use Rattle.tenant_registry.specs.Roster.{entry_of}
 use Rattle.trace_service.specs.Commands.{AreReported, no_report}
-use Rattle.trace_service.specs.Roster.{entry_of}
 use Rattle.trace_service.proofs.Present.{reported_more}
 use Rattle.trace_service.proofs.control.Control.print_reports.Goals as goal
 

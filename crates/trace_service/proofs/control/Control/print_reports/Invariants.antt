@@ -1,6 +1,6 @@
 use Rattle.std.proofs.Common.{◌≡◌, length, map, take}
+use Rattle.tenant_registry.specs.Roster.{entry_of}
 use Rattle.trace_service.specs.Commands.{AreReported}
-use Rattle.trace_service.specs.Roster.{entry_of}
 use Rattle.trace_service.proofs.control.Control.print_reports.Given as goal
 
 abbrev pub invariant-loop-tenant : goal.invariant-loop-tenant
