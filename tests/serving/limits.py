@@ -190,17 +190,26 @@ def both_limits(folder):
 
 
 def unread_replies(folder):
-    """Who never reads its replies is let go once there is no more room for them, and the receiver serves others."""
+    """Who sends on and never reads its replies is let go once there is no more room for them: the one receiver serves the
+    next client, who waited until then. When its own system tells it so isn't looked at: that may be minutes later."""
     with BackEnd() as back_end, Service(folder, [tenant("a", back_end)], *LIMITED, receivers=1) as service:
+        start = time.monotonic()
+        # Its room for replies stays as the system made it. Where it is made smaller than a window that was told before, the
+        # client's system may refuse all that lies beyond, acknowledgements too: then its requests no longer arrive, and it
+        # is let go for its rest.
         with service.connect() as peer:
-            peer.setsockopt(socket.SOL_SOCKET, socket.SO_RCVBUF, 4096)
-            peer.settimeout(MOST)
-            try:
-                while True:
-                    peer.sendall(b"GET / HTTP/1.1\r\nHost: c\r\n\r\n" * 1000)
-            except OSError as fault:
-                check("it isn't waited for", isinstance(fault, TimeoutError), False)
-            check("the next client", service.post("a", body(1, 1)), (200, b""))
+            def sends_on():
+                with suppress(OSError):
+                    while True:
+                        peer.sendall(b"GET / HTTP/1.1\r\nHost: c\r\n\r\n" * 1000)
+
+            def comes_next():
+                check("the next client", service.post("a", body(1, 1)), (200, b""))
+                check("not before the limit", time.monotonic() - start > 0.9 * LIMIT / 1000, True)
+                with suppress(OSError):
+                    peer.shutdown(socket.SHUT_RDWR)
+
+            in_threads(sends_on, comes_next)
         check("the end", service.end(), (0, line_of("a", accepted=1, exported=1), b""))
 
 

@@ -71,19 +71,21 @@ def rests_and_wakes(folder):
 
 
 def rests_until_something_is_due(folder):
-    """While spans wait for their decisions threads sleep, and once it is time for these the spans leave at once."""
+    """While spans wait for their decisions threads sleep, and once it is time for these the spans leave at once, where
+    turners look by themselves once a second."""
     with BackEnd() as back_end:
-        tenants = [tenant(f"t{number}", back_end, wait=WAIT) for number in range(SHARDS)]
-        with Service(folder, tenants, shards=SHARDS, senders=SENDERS) as service:
+        tenants = [tenant(f"t{number}", back_end, wait=WAIT) for number in range(MOST_SHARDS)]
+        with Service(folder, tenants, shards=MOST_SHARDS, senders=SENDERS) as service:
             posted = []
-            for number in range(SHARDS):
+            for number in range(MOST_SHARDS):
                 check("a post", service.post(f"t{number}", body(1, number + 1))[0], 200)
                 posted.append(time.monotonic())
+                time.sleep(0.01)
             wait_for(lambda: is_at_rest(service), "it rests while spans wait")
             check("none has left", len(back_end.posts), 0)
-            wait_for(lambda: len(back_end.posts) == SHARDS, "the spans leave")
+            wait_for(lambda: len(back_end.posts) == MOST_SHARDS, "the spans leave")
             late = sorted(at - then - WAIT / 1_000 for then, (_, _, at) in zip(posted, back_end.posts))
-            check("half of the spans come in time", late[len(late) // 2] < 0.1, True)
+            check("half of the spans come in time", late[len(late) // 2] < 0.25, True)
             check("status", service.end()[0], 0)
 
 
