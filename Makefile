@@ -92,7 +92,7 @@ install:
 	  > $(DESTDIR)$(UNITS)/nimchaes.service
 	chmod 644 $(DESTDIR)$(MAN)/trace_collector.1 $(DESTDIR)$(UNITS)/nimchaes.service
 	install -m 644 examples/start.toml $(DESTDIR)$(EXAMPLES)/settings.toml
-	install -m 644 examples/prometheus.yml examples/alerts.yml examples/nginx.conf $(DESTDIR)$(EXAMPLES)
+	install -m 644 examples/trace.pb examples/prometheus.yml examples/alerts.yml examples/nginx.conf $(DESTDIR)$(EXAMPLES)
 	install -m 755 examples/collector-run $(DESTDIR)$(EXAMPLES)
 	install -m 644 $(addprefix docs/,$(addsuffix .md,OPERATING ADMIN METRICS TROUBLE SIZING CONNECTING SCALING SETTINGS \
 	  FAULTS HTTP SCRIPT)) $(DESTDIR)$(PAGES)

@@ -21,7 +21,8 @@ from pathlib import Path
 
 from serving import talk
 from serving.runs import end
-from serving.talk import MOST, BackEnd, body, check, globals_of, head_of, line_of, read_message, tenant, wait_for
+from serving.talk import (MOST, BackEnd, body, check, free_port, globals_of, head_of, line_of, read_message, tenant,
+                          wait_for)
 
 PORT, ADMIN = 4318, 9464
 HERE = Path(__file__).resolve().parent.parent
@@ -239,17 +240,40 @@ def with_token(machine):
 
 
 def with_other_options(machine):
-    """The unit's token goes, its port changes, and a restart is a drain all the same: of the port, and with the token,
-    that the process began with."""
+    """The unit's token goes, its port changes, a proxy is named, and a restart is a drain all the same: of the port, and
+    with the token, that the process began with."""
     check("a start", machine.does("systemctl", "start", UNIT), (0, ""))
-    for count, (name, text) in enumerate((("token", None), ("port", f"[Service]\nEnvironment=ADMIN=127.0.0.1:{ADMIN + 1}\n"),
-                                          ("port", None)), 1):
+    port = f"[Service]\nEnvironment=ADMIN=127.0.0.1:{ADMIN + 1}\n"
+    proxy = "[Service]\nEnvironment=http_proxy=http://127.0.0.1:1\n"
+    for count, (name, text) in enumerate((("token", None), ("port", port), ("port", None), ("proxy", proxy), ("proxy", None)), 1):
         check("some posts", posted(count, 1), count)
         edited(machine, name, text)
         check(f"a restart with another {name}", machine.does("systemctl", "restart", UNIT), (0, ""))
         check(f"what it says with another {name}", (machine.state(), reports(machine)[-1:]),
               (GOOD, [line_of("a", accepted=count, exported=count).strip()]))
     machine.does("systemctl", "stop", UNIT)
+
+
+def beside_a_proxy(machine, back_end):
+    """What leads to back ends on the same machine, here one of them under a proxy's name, is there until all is sent, where
+    both are stopped in one go, as by a shutdown."""
+    port, units = free_port(), machine.file("/etc/systemd/system")
+    machine.file("/root/back_end.py").write_bytes((HERE / "examples/back_end.py").read_bytes())
+    proxy, down = units / "nginx.service", units / "down.target"
+    proxy.write_text(f"[Service]\nExecStart={os.path.realpath(sys.executable)} /root/back_end.py {port}\n")
+    down.write_text(f"[Unit]\nConflicts=nginx.service {UNIT}\nAfter=nginx.service {UNIT}\n")
+    text = settings_of(back_end).replace(f":{back_end.port}", f":{port}").replace("wait_ms = 500", "wait_ms = 86400000")
+    machine.file(SETTINGS).write_text(text)
+    edited(machine, "limit", f"[Service]\nTimeoutStopSec={4 * LIMIT}\n")
+    check("both start", machine.does("systemctl", "start", "nginx", UNIT), (0, ""))
+    check("some posts", posted(6, 1), 6)
+    check("both stop", machine.does("systemctl", "start", down.name), (0, ""))
+    check("what it says beside a proxy", (machine.state(), reports(machine)[-1:]),
+          (ENDED, [line_of("a", accepted=6, exported=6).strip()]))
+    proxy.unlink()
+    down.unlink()
+    machine.file(SETTINGS).write_text(settings_of(back_end))
+    edited(machine, "limit", None)
 
 
 def ends_by_itself(machine):
@@ -304,6 +328,7 @@ def tried(room):
                 is_killed(machine, back_end)
                 with_token(machine)
                 with_other_options(machine)
+                beside_a_proxy(machine, back_end)
                 ends_by_itself(machine)
                 is_replaced(machine, "/root/second.deb")
                 goes(machine)

@@ -28,7 +28,7 @@ PAGES = ("README.md", *(f"docs/{name}.md" for name in (
 # what isn't typed here, and why
 NOT_TYPED = {
     r"make (serve|trace_collector|deb)\b": "proves; what it runs then is typed below, or built by tests/package.py",
-    r"sudo|trace_collector check /etc|journalctl ": "installed: tests/package.py, tests/booted.py",
+    r"sudo|trace_collector check /etc|journalctl |[\s\S]*@/usr/share/": "installed: tests/package.py, tests/booted.py",
     r"curl http://127.0.0.1:9464/tenants$": "of the unit: tests/booted.py",
     r"./trace_collector check my.toml \| diff before": "of the unit: tests/booted.py",
     r"curl -i -u shop:PASSWORD": "a proxy with a certificate: tests/package.py reads its settings",

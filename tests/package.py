@@ -22,7 +22,8 @@ from serving.talk import MOST, BackEnd, body, check, free_port, globals_of, head
 HERE = Path(__file__).resolve().parent.parent
 FILES = {"bin/trace_collector": 0o755, "share/man/man1/trace_collector.1": 0o644,
          "lib/systemd/system/nimchaes.service": 0o644, "libexec/nimchaes/drain": 0o755,
-         "share/doc/nimchaes/examples/settings.toml": 0o644, "share/doc/nimchaes/examples/prometheus.yml": 0o644,
+         "share/doc/nimchaes/examples/settings.toml": 0o644, "share/doc/nimchaes/examples/trace.pb": 0o644,
+         "share/doc/nimchaes/examples/prometheus.yml": 0o644,
          "share/doc/nimchaes/examples/alerts.yml": 0o644, "share/doc/nimchaes/examples/nginx.conf": 0o644,
          "share/doc/nimchaes/examples/collector-run": 0o755,
          **{f"share/doc/nimchaes/docs/{page}.md": 0o644 for page in (
