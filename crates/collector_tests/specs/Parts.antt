@@ -3,6 +3,7 @@
 use Rattle.std.specs.Prelude.{ℕ, pos, List, [], ◌∷◌, ◌++◌, replicate, None}
 use Rattle.tail_settings.specs.Policy.{PolicyData, always_sample, leaf}
 use Rattle.tail_settings.specs.Section.{SectionData}
+use Rattle.tail_settings.specs.SendingQueue.{most_queue_bytes}
 use Rattle.tenant_rules.specs.Arrivals.{Arrival}
 
 abbrev pub keep_all : List PolicyData
@@ -22,7 +23,7 @@ plain = record {
     policies = keep_all;
   };
   batch = record { send_batch_size = 8192; timeout = 0; send_batch_max_size = 0 };
-  sending_queue = record { queue_size = 1000; num_consumers = 1 };
+  sending_queue = record { queue_size = 1000; queue_bytes = most_queue_bytes; num_consumers = 1 };
   retry_on_failure = record {
     initial_interval = 5000;
     max_interval = 30000;

@@ -4,6 +4,7 @@ use Rattle.std.specs.Prelude.{◌≡◌, ℕ, pos, List, [], ◌∷◌, ◌++◌
 use Rattle.otlp_trace.specs.Data.{SpanData, RequestData}
 use Rattle.tail_settings.specs.Fault.{not_toml}
 use Rattle.tail_settings.specs.Examples.{default_global}
+use Rattle.tail_settings.specs.SendingQueue.{most_queue_bytes}
 use Rattle.tail_settings.specs.Settings.{SettingsData, TenantData, settings_of}
 use Rattle.tail_settings.specs.declared.fault.SettingsFault.TheVariants.{NotToml, TooMany}
 use Rattle.send_retry.specs.Class.{Failed}
@@ -58,6 +59,7 @@ with_shards shards tenants = record {
   global = record default_global { shards = shards };
   tenants = tenants;
   next = length tenants;
+  queue_bytes = most_queue_bytes;
 }
 
 -- ---- one tenant, whose name is `a`, in one shard

@@ -15,6 +15,8 @@ mod members;
 #[cfg(test)]
 mod piecemeal;
 #[cfg(test)]
+mod queue_bytes;
+#[cfg(test)]
 mod refused;
 #[cfg(test)]
 mod sections;

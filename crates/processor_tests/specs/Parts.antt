@@ -2,6 +2,7 @@
 use Rattle.std.specs.Prelude.{ℕ, pos, List, [], ◌∷◌, ◌++◌, replicate, None}
 use Rattle.tail_settings.specs.Policy.{always_sample, status_code, error, leaf}
 use Rattle.tail_settings.specs.Section.{SectionData}
+use Rattle.tail_settings.specs.SendingQueue.{most_queue_bytes}
 use Rattle.drop_ledger.specs.declared.places.Places.{Places}
 use Rattle.drop_ledger.specs.Ledger.{LedgerData}
 use Rattle.send_retry.specs.Class.{Http}
@@ -24,7 +25,7 @@ plain = record {
     policies = leaf always_sample ∷ [];
   };
   batch = record { send_batch_size = 8192; timeout = 0; send_batch_max_size = 0 };
-  sending_queue = record { queue_size = 1000; num_consumers = 1 };
+  sending_queue = record { queue_size = 1000; queue_bytes = most_queue_bytes; num_consumers = 1 };
   retry_on_failure = record {
     initial_interval = 5000;
     max_interval = 30000;

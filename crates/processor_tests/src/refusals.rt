@@ -8,10 +8,11 @@ use send_retry::Answer;
 use std::alloc::{AllocError, Global};
 use std::process::Abort;
 use std::test::Fail;
-use tail_settings::SendingQueue;
+use tail_settings::{MOST_QUEUE_BYTES, SendingQueue};
 
 const TWO_AT_A_TIME: SendingQueue = SendingQueue {
     queue_size: 3,
+    queue_bytes: MOST_QUEUE_BYTES,
     num_consumers: 2,
 };
 

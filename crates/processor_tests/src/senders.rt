@@ -10,7 +10,7 @@ use send_queue::{Batch, OfferFault, SendQueue, SettleFault, Settled, offers_are_
 use std::alloc::{AllocError, Global};
 use std::process::Abort;
 use std::test::Fail;
-use tail_settings::{RetryOnFailure, SendingQueue};
+use tail_settings::{MOST_QUEUE_BYTES, RetryOnFailure, SendingQueue};
 
 /// What a call is to give: a word, and one or two numbers.
 #[derive(Clone, Copy)]
@@ -79,6 +79,11 @@ fn has_room(queue: &SendQueue, wanted: &Wanted<'_>) -> bool {
     )
 }
 
+/// Whether as many more bytes may wait as wanted.
+fn has_bytes_left(queue: &SendQueue, wanted: &Wanted<'_>) -> bool {
+    is(wanted, "left", queue.bytes_left(), 0)
+}
+
 fn is_ready(ready: Option<u64>, wanted: &Wanted<'_>) -> bool {
     match ready {
         Some(moment) => is(wanted, "at", moment, 0),
@@ -125,6 +130,7 @@ fn goes(alloc: Global, queue: &mut SendQueue, line: &'static str) -> Result<bool
         "leaves" => Ok(is(&wanted, "spans", queue.leaving(moment), 0)),
         "ready" => Ok(is_ready(queue.ready(), &wanted)),
         "room" => Ok(has_room(queue, &wanted)),
+        "bytes" => Ok(has_bytes_left(queue, &wanted)),
         _ => settles(alloc, queue, asked, &wanted),
     }
 }
@@ -146,13 +152,22 @@ fn tell(
 /// One batch at a time, of which one waits.
 const ONE: SendingQueue = SendingQueue {
     queue_size: 1,
+    queue_bytes: MOST_QUEUE_BYTES,
     num_consumers: 1,
 };
 
 /// Two batches at a time, of which three wait.
 const TWO: SendingQueue = SendingQueue {
     queue_size: 3,
+    queue_bytes: MOST_QUEUE_BYTES,
     num_consumers: 2,
+};
+
+/// One batch at a time, of which three wait, of seven bytes together.
+const SEVEN_BYTES: SendingQueue = SendingQueue {
+    queue_size: 3,
+    queue_bytes: 7,
+    num_consumers: 1,
 };
 
 /// No attempt comes later than this after the first.
@@ -193,6 +208,40 @@ ready = none";
 fn a_batch_is_sent_and_its_consumer_is_free(rt: HostRuntime) -> Result<(), Fail> {
     let queue = SendQueue::new(rt.alloc(), &ONE, &ENDLESS)?;
     tell(&rt, rt.alloc(), queue, SENT)?;
+    Ok(())
+}
+
+/// Bytes count while a batch waits to be sent for the first time, and not once it is handed out or taken back.
+const BY_BYTES: &str = "\
+bytes 1000 = left 7
+offer 1000 abc = taken
+offer 1000 defg = taken
+bytes 1000 = left 0
+room 1000 = of 2 3
+offer 1000 h = full 1
+job 1000 = abc 1
+bytes 1000 = left 3
+offer 1000 ijkl = full 4
+offer 1000 ijk = taken
+bytes 1000 = left 0
+back = ijk
+bytes 1000 = left 3
+offer 1000 h = taken
+answer 1 1000 0 503 40 - = waits 3 41000
+bytes 1000 = left 2
+job 41000 = abc 2
+bytes 1000 = left 2
+answer 2 41000 0 200 - - = taken 3 0
+job 41000 = defg 3
+answer 3 41000 0 200 - - = taken 4 0
+job 41000 = h 4
+bytes 1000 = left 7
+answer 4 41000 0 200 - - = taken 1 0";
+
+#[test]
+fn batches_that_wait_have_so_many_bytes_at_most(rt: HostRuntime) -> Result<(), Fail> {
+    let queue = SendQueue::new(rt.alloc(), &SEVEN_BYTES, &ENDLESS)?;
+    tell(&rt, rt.alloc(), queue, BY_BYTES)?;
     Ok(())
 }
 

@@ -1,4 +1,5 @@
 pub mod Entries
 pub mod Batches
 pub mod First
+pub mod Queued
 pub mod Whole

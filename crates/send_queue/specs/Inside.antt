@@ -8,7 +8,7 @@ use Rattle.tail_settings.specs.SendingQueue.{sending_queue_view}
 use Rattle.tail_settings.specs.RetryOnFailure.{retry_view}
 use Rattle.send_queue.specs.declared.active.Retry.{Retry}
 use Rattle.send_queue.specs.declared.queue.SendQueue.TheInside.{Inside}
-use Rattle.send_queue.specs.Sender.{ActiveData, SenderData, most_tickets}
+use Rattle.send_queue.specs.Sender.{ActiveData, SenderData, most_tickets, payload_bytes}
 use Rattle.send_queue.specs.View.{batch_view}
 
 -- the order of retries: by moment, then by ticket
@@ -101,8 +101,9 @@ inside_view a = record {
   handed_out = a.handed_out;
 }
 
--- what always holds of it
-abbrev pub QueueInvariant : Inside → Type 0
-QueueInvariant a =
-    IsWhole a.active (heap_items a.retries) (heap_len a.retries) (heap_capacity a.retries) a.sending.num_consumers
-    a.handed_out
+-- what always holds of it: what is active fits together, and as many bytes may still wait as the settings allow beside
+-- those that do
+pub record QueueInvariant (a : Inside) : Type 0 where
+  pub whole : IsWhole a.active (heap_items a.retries) (heap_len a.retries) (heap_capacity a.retries)
+      a.sending.num_consumers a.handed_out
+  pub left : a.bytes_left + payload_bytes (map batch_view a.queue.items) ≡ a.sending.queue_bytes

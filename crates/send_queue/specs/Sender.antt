@@ -41,13 +41,21 @@ pub record SenderData : Type 0 where
 abbrev pub no_batches : SendingQueueData → RetryData → SenderData
 no_batches sending retry = record { sending = sending; retry = retry; queue = []; active = []; handed_out = 0 }
 
--- as many batches wait as may
-abbrev pub is_full : SenderData → Bool
-is_full s = nat_le s.sending.queue_size (length s.queue)
+-- how many bytes the payloads of these batches have
+abbrev pub payload_bytes : List BatchData → ℕ
+payload_bytes [] = 0
+payload_bytes (batch ∷ batches) = length batch.payload + payload_bytes batches
+
+-- for a batch the queue is full where as many batches wait as may, and where with it those that wait would have more
+-- bytes than they may
+abbrev pub is_full : BatchData → SenderData → Bool
+is_full batch s =
+    nat_le s.sending.queue_size (length s.queue)
+    || nat_lt s.sending.queue_bytes (payload_bytes s.queue + length batch.payload)
 
 -- a batch is offered: it waits behind the others, and a full queue takes it not
 abbrev pub offered : BatchData → SenderData → SenderData
-offered batch s = if is_full s then s else record s { queue = s.queue ++ batch ∷ [] }
+offered batch s = if is_full batch s then s else record s { queue = s.queue ++ batch ∷ [] }
 
 -- the last batch of a queue
 abbrev pub newest : List BatchData → Option BatchData

@@ -8,7 +8,7 @@ use thiserror::Error;
 /// Why a batch wasn't taken into the queue. It comes back.
 #[derive(Debug, Drop, Error)]
 pub enum OfferFault {
-    /// As many batches wait as may.
+    /// As many batches wait as may, or with this one they would have more bytes than they may.
     #[error("the sending queue is full")]
     Full(Batch),
     /// Memory was refused.

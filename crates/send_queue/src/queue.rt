@@ -1,10 +1,10 @@
 //! The batches of one tenant that wait to be sent or are being sent.
 
-ghost use Rattle.std.specs.Prelude.{◌≡◌, ◌<◌, ◌≤◌, ◌^◌, ◌↔◌, true, Err, IfOk, IfErr, OnOk, OnErr, Some, None, option_map, ok_or, IsTrue, [], length};
+ghost use Rattle.std.specs.Prelude.{◌≡◌, ◌+◌, ◌<◌, ◌≤◌, ◌^◌, ◌↔◌, true, Err, IfOk, IfErr, OnOk, OnErr, Some, None, option_map, ok_or, IsTrue, [], length};
 ghost use Rattle.tail_settings.specs.SendingQueue.{sending_queue_view};
 ghost use Rattle.tail_settings.specs.RetryOnFailure.{retry_view};
 ghost use Rattle.send_retry.specs.Class.{answer_view};
-ghost use Rattle.send_queue.specs.Sender.{no_batches, is_full, offered, newest, taken_back, first_retry, has_consumer, under, job, job_of, asked, handed_of, due_by, choice, leaving, choice_by, first_choice, retried, settled, answered, ready, next_retry, next_front, lesser};
+ghost use Rattle.send_queue.specs.Sender.{no_batches, payload_bytes, is_full, offered, newest, taken_back, first_retry, has_consumer, under, job, job_of, asked, handed_of, due_by, choice, leaving, choice_by, first_choice, retried, settled, answered, ready, next_retry, next_front, lesser};
 ghost use Rattle.send_queue.specs.View.{batch_view, batch_in};
 ghost use Rattle.send_queue.specs.declared.fault.OfferFault.TheVariants.{Full};
 ghost use Rattle.send_queue.specs.declared.fault.SettleFault.TheVariants.{UnknownTicket};
@@ -32,6 +32,8 @@ pub struct SendQueue {
     retry: RetryOnFailure,
     // The oldest first.
     queue: VecDeque<Batch>,
+    // How many bytes those of the queue may have more than they have.
+    bytes_left: u64,
     // By the ticket that each had last, those that wait for a retry among them.
     active: Actives,
     // Those of them that wait, the one that is sent first on top. There is room for as many as may be active.
@@ -67,6 +69,7 @@ impl SendQueue {
             sending: *sending,
             retry: *retry,
             queue: VecDeque::new(alloc),
+            bytes_left: sending.queue_bytes,
             active: Actives::new(alloc),
             retries,
             handed_out: 0,
@@ -94,15 +97,27 @@ impl SendQueue {
         self.sending.queue_size
     }
 
-    /// A batch that formed waits to be sent, behind the others. It comes back where the queue is full, and where memory
-    /// is refused; nothing has changed then.
+    /// How many more bytes the payloads of the batches that wait so may have, up to 2^42. A batch of more comes back.
+    pub fn bytes_left(&self) -> u64
+        ensures rest { result + payload_bytes self.now.queue ≡ self.now.sending.queue_bytes }
+        ensures range { self.now.sending.queue_bytes ≤ 2 ^ 42 }
+    {
+        self.bytes_left
+    }
+
+    /// A batch that formed waits to be sent, behind the others. It comes back where the queue is full, in batches or in
+    /// bytes, and where memory is refused; nothing has changed then.
     pub fn offer(&mut self, batch: Batch) -> Result<(), OfferFault>
-        ensures full { (result ≡ Err (Full batch)) ↔ (is_full self.old ≡ true) }
+        ensures full { (result ≡ Err (Full batch)) ↔ (is_full (batch_view batch) self.old ≡ true) }
         ensures on_success { OnOk result (self.new ≡ offered (batch_view batch) self.old) }
         ensures back { IfErr result (λ fault. batch_in fault ≡ batch) }
         ensures on_error { OnErr result (self.new ≡ self.old) }
     {
+        let bytes = batch.payload.len() as u64;
         if self.queue.len() >= self.sending.queue_size as usize {
+            return Err(OfferFault::Full(batch));
+        }
+        if bytes > self.bytes_left {
             return Err(OfferFault::Full(batch));
         }
         match self.queue.reserve(1) {
@@ -112,6 +127,7 @@ impl SendQueue {
         let Ok(()) = self.queue.push_back(batch) else {
             unreachable!()
         };
+        self.bytes_left -= bytes;
         Ok(())
     }
 
@@ -120,7 +136,11 @@ impl SendQueue {
         ensures batch { option_map batch_view result ≡ newest self.old.queue }
         ensures rest { self.new ≡ taken_back self.old }
     {
-        self.queue.pop_back()
+        let Some(batch) = self.queue.pop_back() else {
+            return None;
+        };
+        self.bytes_left += batch.payload.len() as u64;
+        Some(batch)
     }
 
     /// The next job at a moment, in milliseconds: its ticket and its payload. A batch that waits to be sent again and
@@ -242,6 +262,7 @@ impl SendQueue {
         let Some(batch) = self.queue.pop_front() else {
             unreachable!()
         };
+        self.bytes_left += batch.payload.len() as u64;
         self.handed_out = ticket;
         Ok(Some((ticket, batch.payload)))
     }

@@ -19,7 +19,7 @@ use Rattle.tail_settings.specs.Keys.{IsFrom, are_all, all_of, number_at, integer
 use Rattle.tail_settings.specs.Policy.{StatusData, unset, ok, error, LeafData, always_sample, latency, status_code, string_attribute, numeric_attribute, PolicyData, leaf, and, status_of, status_code_of, values_of, string_attribute_of, numeric_attribute_of, leaf_of_type, leaf_of, and_of, policy_of, leaves_of, policies_of}
 use Rattle.tail_settings.specs.RetryOnFailure.{retry_of}
 use Rattle.tail_settings.specs.Section.{SectionData, section_of}
-use Rattle.tail_settings.specs.SendingQueue.{sending_queue_of}
+use Rattle.tail_settings.specs.SendingQueue.{most_queue_bytes, sending_queue_of}
 use Rattle.tail_settings.specs.Settings.{TenantData, SettingsData, name_of, numbered_tenant, tenant_of, tenants_of, spans_of, settings_of_table, settings_of}
 use Rattle.tail_settings.specs.Valid.{IsValidGlobal, IsValidLeaf, IsValidPolicy, IsValidTailSampling, IsValidBatch, IsValidSendingQueue, IsValidRetry, IsValidSection, AreValidSettings}
 use Rattle.tail_settings.specs.TailSampling.{TailSamplingData, tail_sampling_of}
@@ -159,7 +159,8 @@ queue_back name s h =
       table_back (codes "sending_queue") m (section_table name s) refl,
       number_back (codes "queue_size") 1 100000 1000 q.queue_size m refl h.queue_size,
       number_back (codes "num_consumers") 1 1000 10 q.num_consumers m refl h.num_consumers,
-    ) refl
+    )
+    (ap (λ n. Ok (record { queue_size = q.queue_size; queue_bytes = n; num_consumers = q.num_consumers })) (sym h.queue_bytes))
 
 retry_back : (name : List ℕ) (s : SectionData) → IsValidRetry s.retry_on_failure → retry_of (section_table name s) ≡ Ok s.retry_on_failure
 unfolding retry_of
@@ -338,7 +339,8 @@ pub document_back : (s : SettingsData) → AreValidSettings s → settings_of_ta
 unfolding settings_of_table
 document_back s h =
     rw (global_back s h.global, all_tenants_back s h, le-leb (spans_of s.tenants) (2 ^ 31) h.few_spans)
-    (ap (λ n. Ok (record { global = s.global; tenants = s.tenants; next = n })) (sym h.next))
+    (ap (λ n. Ok (record { global = s.global; tenants = s.tenants; next = n; queue_bytes = most_queue_bytes })) (sym h.next)
+    ∙ ap (λ n. Ok (record { global = s.global; tenants = s.tenants; next = s.next; queue_bytes = n })) (sym h.queue_bytes))
 
 pub text_back_to : (text : List ℕ) (s : SettingsData) → parse_document text ≡ Some (document_of s) → AreValidSettings s → settings_of text ≡ Ok s
 unfolding settings_of

@@ -3,6 +3,7 @@
 use Rattle.std.specs.Prelude.{codes, ℕ, List, [], ◌∷◌}
 use Rattle.tail_settings.specs.Policy.{always_sample, latency, string_attribute, leaf}
 use Rattle.tail_settings.specs.Section.{SectionData}
+use Rattle.tail_settings.specs.SendingQueue.{most_queue_bytes}
 use Rattle.tail_settings.specs.Settings.{TenantData, SettingsData}
 use Rattle.tail_settings.specs.Examples.{default_global, default_batch, default_queue, default_retry}
 use Rattle.tail_settings.specs.Valid.{IsValidLeaf, IsValidBatch, AreSoundTenants, AreValidSettings}
@@ -30,7 +31,12 @@ named number name = record { number = number; name = name; section = default_sec
 
 -- one tenant with one policy, and every default
 abbrev pub smallest : SettingsData
-smallest = record { global = default_global; tenants = named 0 (codes "a") ∷ []; next = 1 }
+smallest = record {
+  global = default_global;
+  tenants = named 0 (codes "a") ∷ [];
+  next = 1;
+  queue_bytes = most_queue_bytes;
+}
 
 -- by derivation
 pub record Sound : Type 0 where

@@ -2,7 +2,7 @@
 
 use std::alloc::{AllocError, Global};
 use std::test::Fail;
-use tail_settings::{Document, Section, Settings, SettingsFault, load};
+use tail_settings::{Document, MOST_QUEUE_BYTES, Section, Settings, SettingsFault, load};
 
 const A_AND_B: &str =
     "tenant = [{ name = 'a', max_spans = 100, tail_sampling = { policy = [{ type = 'always_sample' }] } },
@@ -249,6 +249,27 @@ fn a_tenant_that_comes_has_at_most_64_policies(rt: HostRuntime) -> Result<(), Fa
         told_of_policies(rt.alloc(), &mut settings, 64)?.as_str(),
         "2"
     );
+    Ok(())
+}
+
+/// How many bytes the tenant with this number may have in batches that wait, none where there is no such tenant.
+fn queue_bytes(settings: &Settings, number: u32) -> Option<u64> {
+    let section = settings.section(number)?;
+    Some(section.sending_queue.queue_bytes)
+}
+
+#[test]
+fn queues_are_bounded(rt: HostRuntime) -> Result<(), Fail> {
+    let mut settings = load(rt.alloc(), A_AND_B)?;
+    assert_eq!(rt; queue_bytes(&settings, 1), Some(MOST_QUEUE_BYTES));
+    settings.bound_queues(1000);
+    assert_eq!(rt; settings.admit(rt.alloc(), C)?, 2);
+    for number in 0..3 {
+        assert_eq!(rt; queue_bytes(&settings, number), Some(1000));
+    }
+    assert_eq!(rt; settings.number("b"), Some(1));
+    settings.bound_queues(u64::MAX);
+    assert_eq!(rt; queue_bytes(&settings, 2), Some(MOST_QUEUE_BYTES));
     Ok(())
 }
 

@@ -91,7 +91,7 @@ Leaf(StringAttribute { key: \"http.route\", values: [\"/cart\", \"/checkout\"] }
 Leaf(NumericAttribute { key: \"http.response.status_code\", min_value: 500, max_value: 599 }), \
 And([Latency { threshold_ms: 1000 }, StatusCode { status_codes: [Error] }])] }, \
 batch: Batch { send_batch_size: 8192, timeout: 200, send_batch_max_size: 0 }, \
-sending_queue: SendingQueue { queue_size: 1000, num_consumers: 10 }, \
+sending_queue: SendingQueue { queue_size: 1000, queue_bytes: 4398046511104, num_consumers: 10 }, \
 retry_on_failure: RetryOnFailure { initial_interval: 5000, max_interval: 30000, max_elapsed_time: 300000, \
 multiplier: 1500, randomization_factor: 500 } }";
 

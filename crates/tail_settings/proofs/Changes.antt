@@ -8,6 +8,7 @@ use Rattle.std.proofs.lemmas.List.Folds.{find-append}
 use Rattle.toml.specs.Parse.{parse_document}
 use Rattle.tail_settings.specs.Change.{only_tenant, free_number, joined, admitted_table, admitted, struck, Change, admit, strike, or_before, changed, after, NumbersAreUsedOnce}
 use Rattle.tail_settings.specs.Fault.{FaultData, too_many}
+use Rattle.tail_settings.specs.QueueBytes.{bounded_tenant}
 use Rattle.tail_settings.specs.Settings.{TenantData, SettingsData, tenant_at, numbered_tenant, few_spans, document_in}
 use Rattle.tail_settings.specs.Valid.{AreFoundByPlace}
 use Rattle.tail_settings.proofs.Sound.{bound, chosen, ok_is, numbered_tenant-number}
@@ -21,10 +22,11 @@ came s new text h =
     let document = bound (document_in (parse_document text)) (admitted_table s) new h in
     let table = bound (only_tenant document.0) _ new document.2 in
     let number = bound (free_number s) _ new table.2 in
-    let tenant = bound (numbered_tenant number.0 s.tenants table.0) _ new number.2 in
-    let fits = bound (few_spans (joined s tenant.0).tenants) _ new tenant.2 in
+    let read = bound (numbered_tenant number.0 s.tenants table.0) _ new number.2 in
+    let tenant = bounded_tenant s.queue_bytes read.0 in
+    let fits = bound (few_spans (joined s tenant).tenants) _ new read.2 in
     let next = chosen (nat_lt (length s.tenants) 1000 && nat_lt s.next (2 ^ 32)) s.next number.0 too_many number.1 in
-    (tenant.0, numbered_tenant-number number.0 s.tenants table.0 tenant.0 tenant.1 ∙ sym next.1, ok_is (joined s tenant.0) new fits.2)
+    (tenant, numbered_tenant-number number.0 s.tenants table.0 read.0 read.1 ∙ sym next.1, ok_is (joined s tenant) new fits.2)
 
 -- ---- numbers that were given
 

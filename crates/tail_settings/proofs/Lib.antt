@@ -4,6 +4,7 @@ pub mod Faults
 pub mod Numbers
 pub mod OnLiterals
 pub mod Policies
+pub mod QueueBytes
 pub mod Rules
 pub mod Sections
 pub mod Sound

@@ -44,11 +44,17 @@ batches_equal a b =
 pub queues_equal : (a b : SendingQueue) → (queue_equal.eq-value.it a b ≡ true) ↔ (sending_queue_view a ≡ sending_queue_view b)
 queues_equal a b =
     let size = numbers_equal a.queue_size b.queue_size in
+    let bytes = numbers_equal a.queue_bytes b.queue_bytes in
     let consumers = numbers_equal a.num_consumers b.num_consumers in (
       λ h.
           let p = and_parts _ _ h in
-          rw (size.0 p.0, consumers.0 p.1) refl,
-      λ h. rw (size.1 (ap (λ v. v.queue_size) h), consumers.1 (ap (λ v. v.num_consumers) h)) refl,
+          let q = and_parts _ _ p.1 in
+          rw (size.0 p.0, bytes.0 q.0, consumers.0 q.1) refl,
+      λ h. rw (
+        size.1 (ap (λ v. v.queue_size) h),
+        bytes.1 (ap (λ v. v.queue_bytes) h),
+        consumers.1 (ap (λ v. v.num_consumers) h),
+      ) refl,
     )
 
 pub retries_equal : (a b : RetryOnFailure) → (retry_equal.eq-value.it a b ≡ true) ↔ (retry_view a ≡ retry_view b)

@@ -18,7 +18,7 @@ use Rattle.tail_settings.specs.Keys.{IsFrom, of_kind, allowed, in_range, number_
 use Rattle.tail_settings.specs.Policy.{LeafData, always_sample, latency, status_code, string_attribute, numeric_attribute, PolicyData, leaf, and, latency_of, status_of, status_code_of, values_of, string_attribute_of, numeric_attribute_of, leaf_of_type, leaf_of, and_of, policy_of, leaves_of, policies_of}
 use Rattle.tail_settings.specs.RetryOnFailure.{RetryData, retry_of}
 use Rattle.tail_settings.specs.Section.{SectionData, section_of}
-use Rattle.tail_settings.specs.SendingQueue.{SendingQueueData, sending_queue_of}
+use Rattle.tail_settings.specs.SendingQueue.{SendingQueueData, most_queue_bytes, sending_queue_of}
 use Rattle.tail_settings.specs.Settings.{TenantData, SettingsData, new_name, name_of, numbered_tenant, tenant_of, tenants_of, spans_of, few_spans, settings_of_table, document_in, settings_of}
 use Rattle.tail_settings.specs.Valid.{IsValidGlobal, IsValidLeaf, IsValidPolicy, IsValidTailSampling, IsValidBatch, IsValidSendingQueue, IsValidRetry, IsValidSection, AreSoundTenants, AreByPlace, AreValidSettings}
 use Rattle.tail_settings.specs.TailSampling.{TailSamplingData, tail_sampling_of}
@@ -281,10 +281,11 @@ sending_queue_of-sound tenant q h =
     let queue = bound (table_at (codes "sending_queue") tenant) _ q h in
     let size = bound (number_at (codes "queue_size") 1 100000 1000 queue.0) _ q queue.2 in
     let consumers = bound (number_at (codes "num_consumers") 1 1000 10 queue.0) _ q size.2 in
-    let read : SendingQueueData = record { queue_size = size.0; num_consumers = consumers.0 } in
+    let read : SendingQueueData = record { queue_size = size.0; queue_bytes = most_queue_bytes; num_consumers = consumers.0 } in
     let same = ok_is read q consumers.2 in
     subst IsValidSendingQueue same (record {
       queue_size = number_at-from (codes "queue_size") 1 100000 1000 queue.0 size.0 (omega arith, omega arith) size.1;
+      queue_bytes = refl;
       num_consumers = number_at-from (codes "num_consumers") 1 1000 10 queue.0 consumers.0 (omega arith, omega arith) consumers.1;
     })
 
@@ -307,7 +308,7 @@ retry_of-sound tenant r h =
       randomization_factor = (number_at-from (codes "randomization_factor") 0 1000 500 retry.0 factor.0 (omega arith, omega arith) factor.1).1;
     })
 
-section_of-sound : (tenant : Members) (s : SectionData) → section_of tenant ≡ Ok s → IsValidSection s
+pub section_of-sound : (tenant : Members) (s : SectionData) → section_of tenant ≡ Ok s → IsValidSection s
 unfolding section_of
 section_of-sound tenant s h =
     let endpoint = bound (address_at (codes "endpoint") (codes "127.0.0.1:4319") tenant) _ s h in
@@ -430,13 +431,13 @@ settings_of_table-sound document s h =
     let found = bound (tenants_of document) _ s global.2 in
     let tenants = bound (few_spans found.0) _ s found.2 in
     let limit = chosen (nat_le (spans_of found.0) (2 ^ 31)) found.0 tenants.0 too_many tenants.1 in
-    let read : SettingsData = record { global = global.0; tenants = tenants.0; next = length tenants.0 } in
+    let read : SettingsData = record { global = global.0; tenants = tenants.0; next = length tenants.0; queue_bytes = most_queue_bytes } in
     let same : read ≡ s = cc in
     let parts = tenants_of-sound document found.0 found.1 in
     let few : spans_of found.0 ≤ 2 ^ 31 = leb-true (spans_of found.0) (2 ^ 31) limit.0 in
     subst AreValidSettings same
-    (subst (λ ts. AreValidSettings (record { global = global.0; tenants = ts; next = length ts })) limit.1
-    (record { global = global_of-sound document global.0 global.1; some_tenant = parts.0; few_tenants = parts.1; few_spans = few; tenants = parts.2; numbers = parts.3; next = refl }))
+    (subst (λ ts. AreValidSettings (record { global = global.0; tenants = ts; next = length ts; queue_bytes = most_queue_bytes })) limit.1
+    (record { global = global_of-sound document global.0 global.1; some_tenant = parts.0; few_tenants = parts.1; few_spans = few; tenants = parts.2; numbers = parts.3; next = refl; queue_bytes = refl }))
 
 document_in-sound : (o : Option Members) (s : SettingsData) → (document_in o >>= settings_of_table) ≡ Ok s → AreValidSettings s
 document_in-sound None s h = absurd (let no : ⊥ = cc in no)

@@ -5,6 +5,7 @@ use Rattle.toml.specs.Data.{Members}
 use Rattle.toml.specs.Parse.{parse_document}
 use Rattle.tail_settings.specs.Fault.{FaultData, missing_key, out_of_range, too_many, ◌>>=◌}
 use Rattle.tail_settings.specs.Keys.{tables_at}
+use Rattle.tail_settings.specs.QueueBytes.{bounded_tenant}
 use Rattle.tail_settings.specs.Settings.{TenantData, SettingsData, tenant_at, numbered_tenant, few_spans, document_in}
 
 -- the only table of an array
@@ -32,13 +33,13 @@ abbrev pub fitting : SettingsData → Result SettingsData FaultData
 fitting s = few_spans s.tenants >>= λ _. Ok s
 
 -- the settings with a document's one tenant behind those present, or the document's first fault; of a document nothing
--- but its tenant is read
+-- but its tenant is read, whose queue has the bound that these settings give to who comes
 unfoldable pub admitted_table : SettingsData → Members → Result SettingsData FaultData
 admitted_table s document = do
   table ← only_tenant document
   number ← free_number s
   tenant ← numbered_tenant number s.tenants table
-  fitting (joined s tenant)
+  fitting (joined s (bounded_tenant s.queue_bytes tenant))
 
 -- the settings with the tenant of a text, or the text's first fault
 unfoldable pub admitted : SettingsData → List ℕ → Result SettingsData FaultData

@@ -3,7 +3,7 @@
 use Rattle.std.specs.Prelude.{codes}
 use Rattle.tail_settings.specs.Global.{GlobalData}
 use Rattle.tail_settings.specs.Batch.{BatchData}
-use Rattle.tail_settings.specs.SendingQueue.{SendingQueueData}
+use Rattle.tail_settings.specs.SendingQueue.{SendingQueueData, most_queue_bytes}
 use Rattle.tail_settings.specs.RetryOnFailure.{RetryData}
 
 -- what holds for all tenants where a document says nothing of it
@@ -22,9 +22,9 @@ default_global = record {
 abbrev pub default_batch : BatchData
 default_batch = record { send_batch_size = 8192; timeout = 200; send_batch_max_size = 0 }
 
--- those of exporterhelper's queue: 1000 batches and 10 consumers
+-- those of exporterhelper's queue: 1000 batches and 10 consumers, and no bound of bytes
 abbrev pub default_queue : SendingQueueData
-default_queue = record { queue_size = 1000; num_consumers = 10 }
+default_queue = record { queue_size = 1000; queue_bytes = most_queue_bytes; num_consumers = 10 }
 
 -- those of its retries: 5 s, 30 s, 300 s, 1.5 and 0.5
 abbrev pub default_retry : RetryData

@@ -5,6 +5,7 @@ pub mod Fault
 pub mod Global
 pub mod Keys
 pub mod Policy
+pub mod QueueBytes
 pub mod RetryOnFailure
 pub mod Section
 pub mod SendingQueue

@@ -14,6 +14,7 @@ use Rattle.tail_settings.specs.Fault.{FaultData, not_toml, missing_key, double_t
 use Rattle.tail_settings.specs.Global.{GlobalData, global_view, global_of}
 use Rattle.tail_settings.specs.Keys.{text_at, allowed, tables_at, not_empty, at_most, each}
 use Rattle.tail_settings.specs.Section.{SectionData, section_view, section_of}
+use Rattle.tail_settings.specs.SendingQueue.{most_queue_bytes}
 use Rattle.tail_settings.specs.Texts.{is_name}
 
 -- a tenant's number, its name and what its table says beside it
@@ -22,11 +23,13 @@ pub record TenantData : Type 0 where
   pub name : List ℕ
   pub section : SectionData
 
--- what holds for all tenants, the tenants in the order of their numbers, and the number that the next one gets
+-- what holds for all tenants, the tenants in the order of their numbers, the number that the next one gets, and how
+-- many bytes its queue holds
 pub record SettingsData : Type 0 where
   pub global : GlobalData
   pub tenants : List TenantData
   pub next : ℕ
+  pub queue_bytes : ℕ
 
 -- what a Rust entry says
 abbrev pub tenant_view : String Global × Tenant → TenantData
@@ -42,6 +45,7 @@ settings_view s = record {
   global = global_view s.global;
   tenants = map tenant_view s.tenants.entries;
   next = s.next;
+  queue_bytes = s.queue_bytes;
 }
 
 -- the tenant with a number
@@ -104,7 +108,7 @@ settings_of_table document = do
   global ← global_of document
   found ← tenants_of document
   tenants ← few_spans found
-  Ok (record { global = global; tenants = tenants; next = length tenants })
+  Ok (record { global = global; tenants = tenants; next = length tenants; queue_bytes = most_queue_bytes })
 
 -- the document of a text, where there is one
 abbrev pub document_in : Option Members → Result Members FaultData

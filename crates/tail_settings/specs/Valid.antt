@@ -5,7 +5,7 @@ use Rattle.tail_settings.specs.Keys.{IsFrom}
 use Rattle.tail_settings.specs.Policy.{LeafData, always_sample, latency, status_code, string_attribute, numeric_attribute, PolicyData, leaf, and, leaves_of}
 use Rattle.tail_settings.specs.TailSampling.{TailSamplingData}
 use Rattle.tail_settings.specs.Batch.{BatchData}
-use Rattle.tail_settings.specs.SendingQueue.{SendingQueueData}
+use Rattle.tail_settings.specs.SendingQueue.{SendingQueueData, most_queue_bytes}
 use Rattle.tail_settings.specs.RetryOnFailure.{RetryData}
 use Rattle.tail_settings.specs.Section.{SectionData}
 use Rattle.tail_settings.specs.Settings.{TenantData, SettingsData, tenant_at, spans_of}
@@ -54,6 +54,7 @@ pub record IsValidBatch (b : BatchData) : Type 0 where
 -- a table `sending_queue`
 pub record IsValidSendingQueue (q : SendingQueueData) : Type 0 where
   pub queue_size : IsFrom 1 100000 q.queue_size
+  pub queue_bytes : q.queue_bytes ≡ most_queue_bytes
   pub num_consumers : IsFrom 1 1000 q.num_consumers
 
 -- a table `retry_on_failure`
@@ -93,6 +94,7 @@ pub record AreValidSettings (s : SettingsData) : Type 0 where
   pub tenants : AreSoundTenants s.tenants
   pub numbers : AreByPlace s.tenants
   pub next : s.next ≡ length s.tenants
+  pub queue_bytes : s.queue_bytes ≡ most_queue_bytes
 
 -- where tenants stand by place, the tenant with a number is the one at that place
 abbrev pub AreFoundByPlace : Type 0

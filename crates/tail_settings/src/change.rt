@@ -65,16 +65,18 @@ impl Settings {
     {
         let table = only_tenant(&document.table)?;
         let number = self.free_number()?;
-        let (name, tenant) = document::numbered_tenant(alloc, &self.tenants, number, table)?;
+        let (name, mut tenant) = document::numbered_tenant(alloc, &self.tenants, number, table)?;
         let spans = document::spans(&self.tenants) + u64::from(tenant.section.max_spans);
         if spans > MAX_SPANS {
             return Err(SettingsFault::TooMany);
         }
+        tenant.bound_queue(self.queue_bytes);
         Ok((name, tenant))
     }
 
     /// Takes in the one tenant of a document. The answer is its number, the next one. Of the document nothing but
-    /// `tenant` is read, as [`load`](crate::load) reads it. Where it is refused, nothing has changed.
+    /// `tenant` is read, as [`load`](crate::load) reads it; [`bound_queues`](Settings::bound_queues) bounds its queue
+    /// too. Where it is refused, nothing has changed.
     pub fn admit_document(
         &mut self,
         alloc: Global,

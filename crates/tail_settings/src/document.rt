@@ -14,6 +14,7 @@ use crate::fault::SettingsFault;
 use crate::global::GlobalSettings;
 use crate::parsed::Document;
 use crate::section::Section;
+use crate::sending_queue::MOST_QUEUE_BYTES;
 use crate::settings::Settings;
 use crate::tenant::Tenant;
 use crate::{keys, texts};
@@ -143,5 +144,6 @@ pub fn load(alloc: Global, text: &str) -> Result<Settings, SettingsFault>
         global,
         tenants,
         next,
+        queue_bytes: MOST_QUEUE_BYTES,
     })
 }

@@ -1,19 +1,27 @@
 //! A tenant's table `sending_queue`.
 
+ghost use Rattle.std.specs.Prelude.{◌≤◌, ◌^◌};
 ghost use Rattle.tail_settings.specs.Keys.{IsFrom};
 
 use crate::fault::SettingsFault;
 use crate::keys;
 use toml::Table;
 
+/// Batches of any queue have fewer bytes together, so whoever may have so many isn't bounded.
+pub const MOST_QUEUE_BYTES: u64 = 1 << 42;
+
 /// How many batches wait to be sent, and how many are being sent.
 #[derive(Clone, Copy, Debug, PartialEq)]
 pub struct SendingQueue {
     /// How many batches wait at most, 1 to 100,000.
     pub queue_size: u32,
+    /// How many bytes those that wait have together at most, 0 to [`MOST_QUEUE_BYTES`]. No key says it: it is the last
+    /// unless [`Settings::bound_queues`](crate::Settings::bound_queues) was called.
+    pub queue_bytes: u64,
     /// How many batches are in flight or waiting for a retry at most, 1 to 1,000.
     pub num_consumers: u32,
     pub ghost queue_size_range: { IsFrom 1 100000 queue_size },
+    pub ghost queue_bytes_range: { queue_bytes ≤ 2 ^ 42 },
     pub ghost num_consumers_range: { IsFrom 1 1000 num_consumers },
 }
 
@@ -35,6 +43,7 @@ impl SendingQueue {
         let num_consumers = keys::number(queue, "num_consumers", 1, 1000, 10)?;
         Ok(SendingQueue {
             queue_size: queue_size as u32,
+            queue_bytes: MOST_QUEUE_BYTES,
             num_consumers: num_consumers as u32,
         })
     }

@@ -17,9 +17,12 @@ pub struct Settings {
     pub tenants: IndexMap<String, Tenant>,
     // The number that the next tenant gets, at most 2^32: then no number of 32 bits is left.
     pub(crate) next: u64,
+    // How many bytes the batches of a tenant that comes have together while they wait.
+    pub(crate) queue_bytes: u64,
     pub ghost few_tenants: { index_map_len tenants ≤ 1000 },
     pub ghost few_spans: { sum_by (λ entry. entry.1.section.max_spans) tenants.entries ≤ 2 ^ 31 },
     pub ghost few_numbers: { next ≤ 2 ^ 32 },
+    pub ghost few_bytes: { queue_bytes ≤ 2 ^ 42 },
     pub ghost rising: { AllPairs (λ one later. one.1.number < later.1.number) tenants.entries },
     pub ghost below: { All (λ entry. entry.1.number < next) tenants.entries },
 }

@@ -1,11 +1,10 @@
 -- The batches that a drain forms are added to those that wait.
-use Rattle.std.proofs.Common.{◌≡◌, ◌<◌, ◌≤◌, ◌+◌, ◌++◌, ◌∙◌, ◌||◌, ℕ, zero, suc, List, [], ◌∷◌, drop, length, map, refl, sym, ap, arith, append-nil, append_assoc, length-append, Bool, true, false}
-use Rattle.std.specs.Prelude.{nat_le, nat_lt}
-use Rattle.std.proofs.lemmas.Bool.{or_left, or_parts}
-use Rattle.std.proofs.lemmas.Bool.Decides.{nat_tests}
+use Rattle.std.proofs.Common.{◌≡◌, ◌<◌, ◌≤◌, ◌+◌, ◌++◌, ◌∙◌, ◌||◌, ℕ, zero, suc, List, [], ◌∷◌, drop, length, map, refl, sym, ap, subst, arith, append-nil, append_assoc, length-append, true, false}
+use Rattle.std.specs.Prelude.{nat_lt}
 use Rattle.drop_ledger.specs.Ledger.{LedgerData, moved}
 use Rattle.drop_ledger.specs.declared.places.Place.TheVariants.{Undecided, Pending, Queued, QueueFull}
-use Rattle.send_queue.specs.Sender.{BatchData, SenderData, is_full}
+use Rattle.send_queue.specs.Sender.{BatchData, SenderData, payload_bytes}
+use Rattle.send_queue.proofs.Queued.{payload_bytes-append}
 use Rattle.span_batcher.specs.Batches.{Batch}
 use Rattle.span_batcher.specs.Maps.{spans_of}
 use Rattle.tail_policy.specs.declared.note.TraceNote.{TraceNote}
@@ -18,44 +17,30 @@ use Rattle.tenant_rules.specs.State.{State}
 use Rattle.tenant_rules.specs.Timers.{recount, queued, all_queued}
 use Rattle.tenant_pipeline.specs.declared.pipeline.Pipeline.{Pipeline}
 use Rattle.tenant_pipeline.specs.declared.unsent.Leaving.{Leaving}
-use Rattle.tenant_pipeline.specs.Outbox.{AreThere, Sends}
+use Rattle.tenant_pipeline.specs.Outbox.{AreThere, Fits, Sends}
 use Rattle.tenant_pipeline.specs.StateIn.{arrivals_at, batch_at, unsent_at, with_behind, written_with}
-use Rattle.tenant_pipeline.specs.Unsent.{AddsAll, has_no_room}
+use Rattle.tenant_pipeline.specs.Unsent.{AddsAll, IsWeighed, has_no_room}
+use Rattle.tenant_pipeline.proofs.Sending.{full_has_none, room_by_bytes, took_one}
 use Rattle.tenant_pipeline.proofs.Spans.{there-back, there-front}
 use Rattle.tenant_pipeline.proofs.Unwritten.{spans_of-append, there_size, unsent-append, unsent_length}
 
 -- ---- whether one finds room
 
 -- as many wait as may
-is_full_by : (sender : SenderData) (p : Part TraceNote) (us : List (Batch ℕ)) → sender.sending.queue_size ≤ length sender.queue + length us → is_full (with_behind (unsent_at p us) sender) ≡ true
-is_full_by sender p us full =
+pub full_by : (sender : SenderData) (p : Part TraceNote) (us : List (Batch ℕ)) (u : Batch ℕ) → sender.sending.queue_size ≤ length sender.queue + length us → has_no_room p u us sender ≡ true
+full_by sender p us u full =
     let both = length-append sender.queue (unsent_at p us) in
     let many = unsent_length p us in
-    let le : sender.sending.queue_size ≤ length (sender.queue ++ unsent_at p us) = omega (arith, both, many, full) in
-    grind (arith, nat_tests, le)
-
-pub full_by : (sender : SenderData) (p : Part TraceNote) (us : List (Batch ℕ)) (u : Batch ℕ) → sender.sending.queue_size ≤ length sender.queue + length us → has_no_room p u us sender ≡ true
-full_by sender p us u full = or_left (is_full (with_behind (unsent_at p us) sender)) (nat_lt most_bytes (length (as_sent (batch_at p u)).payload)) (is_full_by sender p us full)
+    full_has_none (as_sent (batch_at p u)) (with_behind (unsent_at p us) sender) (omega (arith, both, many, full))
 
 -- fewer do
-not_full_by : (sender : SenderData) (p : Part TraceNote) (us : List (Batch ℕ)) → length sender.queue + length us < sender.sending.queue_size → is_full (with_behind (unsent_at p us) sender) ≡ false
-not_full_by sender p us room =
+pub large_by : (sender : SenderData) (p : Part TraceNote) (us : List (Batch ℕ)) (u : Batch ℕ) → length sender.queue + length us < sender.sending.queue_size → has_no_room p u us sender
+    ≡ (nat_lt most_bytes (length (as_sent (batch_at p u)).payload) || nat_lt sender.sending.queue_bytes (payload_bytes sender.queue + payload_bytes (unsent_at p us) + length (as_sent (batch_at p u)).payload))
+large_by sender p us u room =
     let both = length-append sender.queue (unsent_at p us) in
     let many = unsent_length p us in
-    let lt : length (sender.queue ++ unsent_at p us) < sender.sending.queue_size = omega (arith, both, many, room) in
-    grind (arith, nat_tests, lt)
-
-pub large_by : (sender : SenderData) (p : Part TraceNote) (us : List (Batch ℕ)) (u : Batch ℕ) → length sender.queue + length us < sender.sending.queue_size → has_no_room p u us sender ≡ nat_lt most_bytes (length (as_sent (batch_at p u)).payload)
-large_by sender p us u room = ap (λ (full : Bool). full || nat_lt most_bytes (length (as_sent (batch_at p u)).payload)) (not_full_by sender p us room)
-
-fewer_wait : (sender : SenderData) (p : Part TraceNote) (us : List (Batch ℕ)) (u : Batch ℕ) → has_no_room p u us sender ≡ false → length sender.queue + length us < sender.sending.queue_size
-fewer_wait sender p us u room =
-    let parts = or_parts (is_full (with_behind (unsent_at p us) sender)) (nat_lt most_bytes (length (as_sent (batch_at p u)).payload)) room in
-    let test : nat_le sender.sending.queue_size (length (sender.queue ++ unsent_at p us)) ≡ false = parts.0 in
-    let lt : length (sender.queue ++ unsent_at p us) < sender.sending.queue_size = grind (arith, nat_tests, test) in
-    let both = length-append sender.queue (unsent_at p us) in
-    let many = unsent_length p us in
-    omega (arith, lt, both, many)
+    room_by_bytes (as_sent (batch_at p u)) (with_behind (unsent_at p us) sender) (omega (arith, both, many, room))
+    ∙ ap (λ (n : ℕ). nat_lt most_bytes (length (as_sent (batch_at p u)).payload) || nat_lt sender.sending.queue_bytes (n + length (as_sent (batch_at p u)).payload)) (payload_bytes-append sender.queue (unsent_at p us))
 
 -- ---- one batch
 
@@ -79,8 +64,8 @@ module _ (p : Part TraceNote) (sender : SenderData) (old new : Leaving) (l l' : 
   size_by there = there_size p u.spans (there-front p u.spans [] there) ∙ sym n_is
 
   -- its spans were dropped
-  pub adds_none : has_no_room p u old.unsent sender ≡ true → new.unsent ≡ old.unsent → new.gone.items ≡ old.gone.items ++ u.spans → l' ≡ moved Pending QueueFull n l → AddsAll p (u ∷ []) sender old new l l'
-  adds_none none unsent gone ledger = record {
+  pub adds_none : IsWeighed p old → has_no_room p u old.unsent sender ≡ true → new.unsent ≡ old.unsent → new.bytes ≡ old.bytes → new.gone.items ≡ old.gone.items ++ u.spans → l' ≡ moved Pending QueueFull n l → AddsAll p (u ∷ []) sender old new l l'
+  adds_none weighed none unsent bytes gone ledger = record {
     rules = λ there s sender_is ledger_is.
         let size = size_by there in
         queued_none b s (ap (finds_no_room b) sender_is ∙ none)
@@ -92,7 +77,8 @@ module _ (p : Part TraceNote) (sender : SenderData) (old new : Leaving) (l l' : 
         let same = ap (λ (us : List (Batch ℕ)). count key (spans_of us)) unsent in
         let one = one_key key in
         omega (arith, more, both, same, one);
-    room = λ fits. let same = ap (λ (us : List (Batch ℕ)). length us) unsent in omega (arith, fits, same);
+    room = λ fits. subst (λ (us : List (Batch ℕ)). Fits (with_behind (unsent_at p us) sender)) (sym unsent) fits;
+    weighed = bytes ∙ (weighed ∙ ap (λ (us : List (Batch ℕ)). payload_bytes (unsent_at p us)) (sym unsent));
     pending =
         let less = ap (λ (x : LedgerData). x.places.pending) ledger in
         let one = one_size in
@@ -103,8 +89,8 @@ module _ (p : Part TraceNote) (sender : SenderData) (old new : Leaving) (l l' : 
       sender_here s is = is ∙ ap (λ (us : List (Batch ℕ)). with_behind (unsent_at p us) sender) (sym unsent)
 
   -- it waits
-  pub adds_one : has_no_room p u old.unsent sender ≡ false → new.unsent ≡ old.unsent ++ u ∷ [] → new.gone.items ≡ old.gone.items → l' ≡ moved Pending Queued n l → AddsAll p (u ∷ []) sender old new l l'
-  adds_one some unsent gone ledger = record {
+  pub adds_one : IsWeighed p old → has_no_room p u old.unsent sender ≡ false → new.unsent ≡ old.unsent ++ u ∷ [] → new.bytes ≡ old.bytes + length (as_sent (batch_at p u)).payload → new.gone.items ≡ old.gone.items → l' ≡ moved Pending Queued n l → AddsAll p (u ∷ []) sender old new l l'
+  adds_one weighed some unsent bytes gone ledger = record {
     rules = λ there s sender_is ledger_is.
         let size = size_by there in
         queued_room b s (ap (finds_no_room b) sender_is ∙ some)
@@ -115,23 +101,28 @@ module _ (p : Part TraceNote) (sender : SenderData) (old new : Leaving) (l l' : 
         let more = ap (λ (us : List (Batch ℕ)). count key (spans_of us)) unsent ∙ ap (count key) (spans_of-append old.unsent (u ∷ [])) in
         let both = count-append key (spans_of old.unsent) (u.spans ++ []) in
         omega (arith, same, more, both);
-    room = λ fits.
-        let room = fewer_wait sender p old.unsent u some in
-        let more = ap (λ (us : List (Batch ℕ)). length us) unsent in
-        let both = length-append old.unsent (u ∷ []) in
-        omega (arith, room, more, both);
+    room = λ fits. subst (λ (q : List BatchData). Fits (let y : SenderData = record sender { queue = q } in y)) queue_then ((took_one b (with_behind (unsent_at p old.unsent) sender) some).room fits);
+    weighed =
+        let more = ap payload_bytes behind in
+        let both = payload_bytes-append (unsent_at p old.unsent) (b ∷ []) in
+        omega (arith, bytes, weighed, more, both);
     pending =
         let less = ap (λ (x : LedgerData). x.places.pending) ledger in
         let one = one_size in
         omega (arith, less, one, n_is, few);
   }
     where
+      behind : unsent_at p old.unsent ++ b ∷ [] ≡ unsent_at p new.unsent
+      behind = sym (unsent-append p old.unsent (u ∷ [])) ∙ ap (unsent_at p) (sym unsent)
+
+      queue_then : (sender.queue ++ unsent_at p old.unsent) ++ b ∷ [] ≡ sender.queue ++ unsent_at p new.unsent
+      queue_then = append_assoc sender.queue (unsent_at p old.unsent) (b ∷ []) ∙ ap (λ (bs : List BatchData). sender.queue ++ bs) behind
+
       sender_then : (s : State) → s.sender ≡ with_behind (unsent_at p old.unsent) sender →
           record (s.sender) { queue = s.sender.queue ++ b ∷ [] } ≡ with_behind (unsent_at p new.unsent) sender
       sender_then s is =
-          let behind : unsent_at p old.unsent ++ b ∷ [] ≡ unsent_at p new.unsent = sym (unsent-append p old.unsent (u ∷ [])) ∙ ap (unsent_at p) (sym unsent) in
           ap (λ (x : SenderData). let y : SenderData = record x { queue = x.queue ++ b ∷ [] } in y) is
-          ∙ ap (λ (q : List BatchData). let y : SenderData = record sender { queue = q } in y) (append_assoc sender.queue (unsent_at p old.unsent) (b ∷ []) ∙ ap (λ (bs : List BatchData). sender.queue ++ bs) behind)
+          ∙ ap (λ (q : List BatchData). let y : SenderData = record sender { queue = q } in y) queue_then
 
 -- ---- several
 
@@ -151,15 +142,6 @@ module _ (p : Part TraceNote) (own : Pipeline) (bs : List (Batch ℕ)) (old new 
     same = refl;
   }
 
-  pub adds_left : length (own.sender.queue ++ unsent_at p old.unsent) ≤ own.sender.sending.queue_size → length (own.sender.queue ++ unsent_at p new.unsent) ≤ own.sender.sending.queue_size
-  adds_left fits =
-      let first = length-append own.sender.queue (unsent_at p old.unsent) in
-      let last = length-append own.sender.queue (unsent_at p new.unsent) in
-      let many = unsent_length p old.unsent in
-      let most = unsent_length p new.unsent in
-      let room = adds.room (omega (arith, fits, first, many)) in
-      omega (arith, room, last, most)
-
 -- one that is added with the same spans pending
 module _ (p : Part TraceNote) (own : Pipeline) (u : Batch ℕ) (old new : Leaving) (l' : LedgerData) (adds : AddsAll p (u ∷ []) own.sender old new own.ledger l') (there : AreThere p (u.spans ++ [])) where
   pub rest_sends : Sends (queued (as_sent (batch_at p u))) (written_with old.unsent p own) (written_with new.unsent p (record own { ledger = l' }))
@@ -167,12 +149,3 @@ module _ (p : Part TraceNote) (own : Pipeline) (u : Batch ℕ) (old new : Leavin
     rules = λ s sender ledger. adds.rules there s sender ledger;
     same = refl;
   }
-
-  pub rest_left : length (own.sender.queue ++ unsent_at p old.unsent) ≤ own.sender.sending.queue_size → length (own.sender.queue ++ unsent_at p new.unsent) ≤ own.sender.sending.queue_size
-  rest_left fits =
-      let first = length-append own.sender.queue (unsent_at p old.unsent) in
-      let last = length-append own.sender.queue (unsent_at p new.unsent) in
-      let many = unsent_length p old.unsent in
-      let most = unsent_length p new.unsent in
-      let room = adds.room (omega (arith, fits, first, many)) in
-      omega (arith, room, last, most)

@@ -1,6 +1,7 @@
 -- Steps of a tenant that was drained, while batches wait that aren't written.
 use Rattle.std.proofs.Common.{◌≡◌, ◌<◌, ◌≤◌, ◌+◌, ◌^◌, ◌++◌, ◌∙◌, ℕ, List, [], ◌∷◌, drop, length, refl, sym, ap, subst, arith, append_assoc, length-append, true, false, Option, None, Some}
 use Rattle.send_retry.specs.Class.{AnswerData}
+use Rattle.send_queue.specs.Sender.{is_full}
 use Rattle.span_batcher.specs.Batches.{Batch}
 use Rattle.span_batcher.specs.Machine.{fired}
 use Rattle.span_batcher.specs.Maps.{spans_of}
@@ -22,13 +23,15 @@ use Rattle.tenant_rules.proofs.Fronts.{ran_none}
 use Rattle.tenant_pipeline.specs.declared.pipeline.Pipeline.{Pipeline}
 use Rattle.tenant_pipeline.specs.Acts.{ActsAt, all_run}
 use Rattle.tenant_pipeline.specs.Invariant.{PipelineInvariantAt, PipelineInvariantBy, PipelineInvariantFrom}
-use Rattle.tenant_pipeline.specs.Outbox.{Sends}
+use Rattle.tenant_pipeline.specs.Outbox.{Fits, Sends}
 use Rattle.tenant_pipeline.specs.StateIn.{all_written, batch_at, counts_in, state_by, state_of, unsent_at, view_in, with_behind, written_state_of, written_with}
 use Rattle.tenant_pipeline.specs.Unsent.{IsAhead}
 use Rattle.tenant_pipeline.proofs.Behind.{IsDrained, at_any, behind_is, is_behind, none_due, sends_behind, settled_behind, turned_behind}
 use Rattle.tenant_pipeline.proofs.Posting.{held_over}
+use Rattle.tenant_pipeline.proofs.Ranges.{room_within}
+use Rattle.tenant_pipeline.proofs.Sending.{first_fits}
 use Rattle.tenant_pipeline.proofs.Stepping.{turn_sent, answer_sent}
-use Rattle.tenant_pipeline.proofs.Unwritten.{ShowSame, unsent_length, unsent_same}
+use Rattle.tenant_pipeline.proofs.Unwritten.{ShowSame, unsent_same}
 
 -- what a step at a moment makes of a tenant
 pub record Stepped (step : Own) (moment : ℕ) (own new : Pipeline) (p q : Part TraceNote) : Type 0 where
@@ -76,15 +79,11 @@ pub state_ahead : (own new : Pipeline) (p q : Part TraceNote) → IsAhead own ne
 state_ahead own new p q ahead =
     ap (λ (o : Pipeline). written_state_of o q) ahead.whole ∙ ap (state_by (all_written own p)) ahead.shows
 
--- the queue has room for one that waits
-pub room_ahead : (reached : ℕ) (own : Pipeline) (p : Part TraceNote) → PipelineInvariantFrom reached own p → 0 < length own.unsent → length own.sender.queue < own.sender.sending.queue_size
-room_ahead reached own p holds some =
-    let within = holds.whole.within in
-    let fits = within.queue_fits in
-    let size = within.queue_size_is in
-    let both = length-append own.sender.queue (unsent_at p own.unsent) in
-    let many = unsent_length p own.unsent in
-    omega (arith, some, fits, size, both, many)
+-- the queue has room for the next one
+pub room_ahead : (reached : ℕ) (own : Pipeline) (p : Part TraceNote) (u : Batch ℕ) (rest : List (Batch ℕ)) → PipelineInvariantFrom reached own p → own.unsent ≡ u ∷ rest → is_full (as_sent (batch_at p u)) own.sender ≡ false
+room_ahead reached own p u rest holds us_is =
+    first_fits own.sender (as_sent (batch_at p u)) (unsent_at p rest)
+    (subst (λ (us : List (Batch ℕ)). Fits (with_behind (unsent_at p us) own.sender)) us_is (room_within (all_written own p) p holds.whole.within).fits)
 
 module _ (own : Pipeline) (p q : Part TraceNote) (u : Batch ℕ) (rest : List (Batch ℕ)) (sender : SenderData) (us_is : own.unsent ≡ u ∷ rest) (sender_is : sender ≡ with_behind (as_sent (batch_at p u) ∷ []) own.sender)
     (leaves : (n : Counts) (pending left held : List ℕ) → ((key : ℕ) → count key u.spans + count key left ≡ count key pending) → StoreInvariant n pending held p → StoreInvariant n left held q)

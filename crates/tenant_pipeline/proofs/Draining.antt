@@ -41,9 +41,10 @@ use Rattle.tenant_pipeline.specs.Acts.{at}
 use Rattle.tenant_pipeline.specs.Drains.{SendsRow, SendsRest, SendsAll}
 use Rattle.tenant_pipeline.specs.Invariant.{IsNoted, PipelineInvariantAt}
 use Rattle.tenant_pipeline.specs.StateIn.{arrivals_of, counts_in, policies_of, waiting_of, written_state_of}
-use Rattle.tenant_pipeline.specs.Outbox.{arrivals_at, pending_at, undone, AreThere, HasRoom, Groups, Sends, Took}
+use Rattle.tenant_pipeline.specs.Outbox.{arrivals_at, pending_at, undone, AreThere, Fits, HasRoom, Groups, Sends, Took}
 use Rattle.tenant_pipeline.specs.Undo.{before, TakesBack}
 use Rattle.drop_ledger.specs.Ledger.{ledger_of}
+use Rattle.tenant_pipeline.proofs.Ranges.{room_within}
 use Rattle.tenant_pipeline.proofs.Sending.{undone-add}
 use Rattle.tenant_pipeline.proofs.Spans.{arrival_or, there_is, there-back}
 use Rattle.tenant_pipeline.proofs.Timing.{verdict_is}
@@ -104,7 +105,7 @@ row_dropped own p row moment n verdict size after pending room =
       rules_are = refl;
       timer = after;
       pending_is = pending;
-      room = record { size = room.size; fits = room.fits };
+      room = record { size = room.size; bytes = room.bytes; fits = room.fits };
     }
 
 -- what is known of a row that waits
@@ -136,7 +137,7 @@ drained_some moment (x ∷ xs) some = refl
 -- where something is pending there is one
 pub rest_some : (own mid : Pipeline) (p : Part TraceNote) (moment : ℕ) (b : BatchData) → 0 < length own.batcher.spans → AreThere p own.batcher.spans →
     b ≡ as_sent (record { moment = moment; spans = arrivals_at p own.batcher.spans }) → Sends (queued b) own mid → mid.sender.sending ≡ own.sender.sending →
-    (length own.sender.queue ≤ own.sender.sending.queue_size → length mid.sender.queue ≤ own.sender.sending.queue_size) → HasRoom own → SendsRest moment p own mid
+    (Fits own.sender → Fits mid.sender) → HasRoom own → SendsRest moment p own mid
 rest_some own mid p moment b some there is_batch sends settings left room = record {
   rules = λ s is.
       let xs = arrivals_at p own.batcher.spans in
@@ -149,12 +150,11 @@ rest_some own mid p moment b some there is_batch sends settings left room = reco
   same = sends.same;
   room =
       let section : mid.section ≡ own.section = ap (λ (x : Pipeline). x.section) sends.same in
-      let size : mid.section.sending_queue.queue_size ≡ own.section.sending_queue.queue_size = ap (λ (x : Section). x.sending_queue.queue_size) section in
-      let setting : mid.sender.sending.queue_size ≡ own.sender.sending.queue_size = ap (λ (x : SendingQueueData). x.queue_size) settings in
-      let was = room.size in
-      let fits = room.fits in
-      let queue = left (omega (arith, was, fits)) in
-      record { size = omega (arith, size, setting, was); fits = omega (arith, queue, size, was) };
+      record {
+        size = ap (λ (x : SendingQueueData). x.queue_size) settings ∙ (room.size ∙ ap (λ (x : Section). x.sending_queue.queue_size) (sym section));
+        bytes = ap (λ (x : SendingQueueData). x.queue_bytes) settings ∙ (room.bytes ∙ ap (λ (x : Section). x.sending_queue.queue_bytes) (sym section));
+        fits = left room.fits;
+      };
 }
 
 -- and else there is none
@@ -166,7 +166,7 @@ rest_none own p moment none room = record {
       ∙ (ap (λ (keys : List ℕ). all_queued (all_sent (option_to_list (drained moment (arrivals_at p keys)))) t) none
       ∙ (λ i. let u : State = record t { sender = is.sender i; ledger = is.ledger i } in u));
   same = refl;
-  room = record { size = room.size; fits = room.fits };
+  room = record { size = room.size; bytes = room.bytes; fits = room.fits };
 }
 
 -- it can be taken back
@@ -283,7 +283,7 @@ module _ (own : Pipeline) (p : Part TraceNote) (moment : ℕ) (held : PipelineIn
         rules_are = refl;
         timer = after;
         pending_is = pending ∙ (ap length (there_is p own.batcher.spans there) ∙ length-map own.batcher.spans (arrival_or p));
-        room = record { size = held.within.queue_size_is; fits = held.within.queue_fits };
+        room = room_within own p held.within;
         there = there;
         noted = held.noted;
       }

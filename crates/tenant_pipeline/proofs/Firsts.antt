@@ -21,6 +21,7 @@ use Rattle.tenant_pipeline.specs.declared.pipeline.Pipeline.{Pipeline}
 use Rattle.tenant_pipeline.specs.StateIn.{counts_in, policies_of, waiting_of, view_in, written_state_of}
 use Rattle.tenant_pipeline.specs.Invariant.{IsNoted, WrittenInvariantBy}
 use Rattle.tenant_pipeline.specs.Outbox.{arrivals_at, AreThere, HasRoom}
+use Rattle.tenant_pipeline.proofs.Ranges.{room_within}
 use Rattle.tenant_pipeline.proofs.Spans.{arrival_or, there_is, there-front, there-back}
 use Rattle.tenant_pipeline.proofs.Timing.{noted_some, after_first}
 
@@ -82,5 +83,5 @@ module _ (own : Pipeline) (p : Part TraceNote) (held : WrittenInvariantBy own p)
         there = all_there;
         undecided = omega (arith, undecided, all, size);
         pending = pending ∙ left;
-        room = record { size = held.within.queue_size_is; fits = held.within.queue_fits };
+        room = room_within own p held.within;
       }

@@ -22,7 +22,7 @@ use Rattle.tenant_rules.specs.Timers.{recount, all_queued, grouped}
 use Rattle.tenant_pipeline.specs.declared.pipeline.Pipeline.{Pipeline}
 use Rattle.tenant_pipeline.specs.declared.undo.Undo.{Undo}
 use Rattle.tenant_pipeline.specs.StateIn.{written_state_of}
-use Rattle.tenant_pipeline.specs.Outbox.{arrivals_at, AreThere, batch_at, pending_at, undone, Sends, HasRoom, Groups, Took}
+use Rattle.tenant_pipeline.specs.Outbox.{arrivals_at, AreThere, batch_at, pending_at, undone, Sends, Fits, HasRoom, Groups, Took}
 use Rattle.tenant_pipeline.specs.Undo.{before, TakesBack}
 use Rattle.tenant_pipeline.proofs.Grouping.{cuts_are, group_size, added_are, sent_sizes, added_rules, added_spans, added_after}
 use Rattle.tenant_pipeline.proofs.Sending.{undone-add, pending_after}
@@ -32,7 +32,7 @@ module _ (own mid : Pipeline) (p : Part TraceNote) (moment : ℕ) (keys : List �
     (there : AreThere p (own.batcher.spans ++ keys))
     (sent_are : sent ≡ all_sent (map (batch_at p) (cuts own.batcher.rules moment (own.batcher.spans ++ keys))))
     (sends : Sends (λ s. all_queued sent (recount Undecided Pending (length keys) s)) own mid)
-    (settings : mid.sender.sending ≡ own.sender.sending) (left : length own.sender.queue ≤ own.sender.sending.queue_size → length mid.sender.queue ≤ own.sender.sending.queue_size) where
+    (settings : mid.sender.sending ≡ own.sender.sending) (left : Fits own.sender → Fits mid.sender) where
   abbrev b : batcher.State ℕ
   b = added moment keys own.batcher
 
@@ -69,12 +69,11 @@ module _ (own mid : Pipeline) (p : Part TraceNote) (moment : ℕ) (keys : List �
   room_of_group : HasRoom own → HasRoom new
   room_of_group room =
       let section : mid.section ≡ own.section = ap (λ (x : Pipeline). x.section) sends.same in
-      let size : mid.section.sending_queue.queue_size ≡ own.section.sending_queue.queue_size = ap (λ (x : Section). x.sending_queue.queue_size) section in
-      let setting : mid.sender.sending.queue_size ≡ own.sender.sending.queue_size = ap (λ (x : SendingQueueData). x.queue_size) settings in
-      let was = room.size in
-      let fits = room.fits in
-      let queue = left (omega (arith, was, fits)) in
-      record { size = omega (arith, size, setting, was); fits = omega (arith, queue, size, was) }
+      record {
+        size = ap (λ (x : SendingQueueData). x.queue_size) settings ∙ (room.size ∙ ap (λ (x : Section). x.sending_queue.queue_size) (sym section));
+        bytes = ap (λ (x : SendingQueueData). x.queue_bytes) settings ∙ (room.bytes ∙ ap (λ (x : Section). x.sending_queue.queue_bytes) (sym section));
+        fits = left room.fits;
+      }
 
   pub groups_by : AreValidRules own.batcher.rules → 0 < length keys → IsAfter (next_due own.batcher) moment → own.ledger.places.pending ≡ length own.batcher.spans → HasRoom own →
       Groups moment keys p own new

@@ -1,20 +1,20 @@
 -- Batches that are offered, by what is a tenant's own.
-use Rattle.std.proofs.Common.{◌≡◌, ◌<◌, ◌≤◌, ◌+◌, ◌-◌, ◌++◌, ◌∙◌, ℕ, zero, suc, List, [], ◌∷◌, length, length-append, take, refl, sym, ap, arith, Bool, true, false, cond, ◌||◌, None}
-use Rattle.std.specs.Prelude.{nat_lt}
+use Rattle.std.proofs.Common.{◌≡◌, ◌<◌, ◌≤◌, ◌+◌, ◌-◌, ◌++◌, ◌∙◌, ℕ, zero, suc, List, [], ◌∷◌, length, length-append, take, min, ◌^◌, refl, sym, ap, arith, Bool, true, false, cond, ◌||◌, None}
+use Rattle.std.specs.Prelude.{nat_le, nat_lt}
 use Rattle.std.proofs.Math.Seq.{take-append_seam}
 use Rattle.std.proofs.lemmas.Bool.Decides.{nat_tests}
 use Rattle.drop_ledger.specs.Ledger.{LedgerData, moved}
 use Rattle.drop_ledger.specs.declared.places.Place.TheVariants.{Pending, Queued, QueueFull}
-use Rattle.send_queue.specs.Sender.{BatchData, SenderData, is_full, offered, taken_back}
+use Rattle.send_queue.specs.Sender.{BatchData, SenderData, payload_bytes, is_full, offered, taken_back}
+use Rattle.send_queue.proofs.Queued.{payload_bytes-append}
 use Rattle.span_batcher.specs.Blocks.{capped}
 use Rattle.tail_settings.specs.Section.{section_view}
-use Rattle.tail_settings.specs.SendingQueue.{SendingQueueData}
 use Rattle.tenant_rules.specs.Sender.{sizes, most_bytes, finds_no_room, admitted}
 use Rattle.decision_cache.specs.Caches.{shown}
 use Rattle.tenant_rules.specs.State.{State}
 use Rattle.tenant_rules.specs.Timers.{recount, queued, all_queued}
 use Rattle.tenant_pipeline.specs.declared.pipeline.Pipeline.{Pipeline}
-use Rattle.tenant_pipeline.specs.Outbox.{undone, Offers, Sends, Took}
+use Rattle.tenant_pipeline.specs.Outbox.{undone, Fits, Offers, Sends, Took}
 
 pub took_none : (s : SenderData) → Took 0 s s
 took_none s = record { back = refl; count = omega arith; settings = refl; room = λ fits. fits }
@@ -28,11 +28,7 @@ took_more n m s t u first then = record {
   back = undone-add n m u ∙ (ap (undone n) then.back ∙ first.back);
   count = omega (arith, first.count, then.count);
   settings = then.settings ∙ first.settings;
-  room = λ fits.
-      let mid = first.room fits in
-      let size : t.sending.queue_size ≡ s.sending.queue_size = ap (λ (x : SendingQueueData). x.queue_size) first.settings in
-      let end = then.room (omega (arith, mid, size)) in
-      omega (arith, end, size);
+  room = λ fits. then.room (first.room fits);
 }
 
 -- ---- whether a batch finds room
@@ -45,27 +41,63 @@ is_above size n is = by_test (nat_lt most_bytes n) refl
     by_test true t = let above : most_bytes < n = grind (arith, nat_tests, t) in let more : most_bytes < size = omega (arith, is, above) in grind (arith, nat_tests, more)
     by_test false t = let below : n ≤ most_bytes = grind (arith, nat_tests, t) in let less : size ≤ most_bytes = omega (arith, is, below) in grind (arith, nat_tests, less)
 
+-- more bytes than are left are those with which there would be too many
+pub is_beyond : (left waiting most ahead size sum : ℕ) → left + waiting ≡ most → most ≤ 2 ^ 42 → sum ≡ min (ahead + size) (2 ^ 64 - 1) → nat_lt left sum ≡ nat_lt most (waiting + ahead + size)
+is_beyond left waiting most ahead size sum is few sum_is = by_test (nat_lt most (waiting + ahead + size)) refl
+  where
+    by_test : (b : Bool) → nat_lt most (waiting + ahead + size) ≡ b → nat_lt left sum ≡ b
+    by_test true t = let above : most < waiting + ahead + size = grind (arith, nat_tests, t) in let more : left < sum = omega (arith, is, few, sum_is, above) in grind (arith, nat_tests, more)
+    by_test false t = let below : waiting + ahead + size ≤ most = grind (arith, nat_tests, t) in let less : sum ≤ left = omega (arith, is, few, sum_is, below) in grind (arith, nat_tests, less)
+
+pub either_order : (many heavy long : Bool) → many ≡ false → ((many || heavy) || long) ≡ (long || heavy)
+either_order true heavy long few = absurd (cc)
+either_order false true true few = refl
+either_order false true false few = refl
+either_order false false true few = refl
+either_order false false false few = refl
+
+pub one_of_two : (f g : Bool) → f ≡ true → (f || g) ≡ true
+one_of_two true g is = refl
+one_of_two false g is = absurd (cc)
+
+pub none_of_two : (f g : Bool) → (f || g) ≡ false → (f ≡ false) × (g ≡ false)
+none_of_two true g is = absurd (cc)
+none_of_two false g is = (refl, is)
+
+neither_of_two : (f g : Bool) → f ≡ false → g ≡ false → (f || g) ≡ false
+neither_of_two true g none other = absurd (cc)
+neither_of_two false g none other = other
+
+-- where those that wait and others are few and light, there is room for the first of the others
+pub first_fits : (s : SenderData) (b : BatchData) (bs : List BatchData) → Fits (record s { queue = s.queue ++ b ∷ bs }) → is_full b s ≡ false
+first_fits s b bs fits =
+    let few = fits.few in
+    let light = fits.light in
+    let fewer : length s.queue < s.sending.queue_size = omega (arith, few, length-append s.queue (b ∷ bs)) in
+    let lighter : payload_bytes s.queue + length b.payload ≤ s.sending.queue_bytes = omega (arith, light, payload_bytes-append s.queue (b ∷ bs)) in
+    let not_many : nat_le s.sending.queue_size (length s.queue) ≡ false = grind (arith, nat_tests, fewer) in
+    let not_heavy : nat_lt s.sending.queue_bytes (payload_bytes s.queue + length b.payload) ≡ false = grind (arith, nat_tests, lighter) in
+    neither_of_two _ _ not_many not_heavy
+
 module _ (b : BatchData) (s : SenderData) where
+  -- it has more bytes than any may have, or with those that wait more than may wait
+  abbrev pub has_too_many : Bool
+  has_too_many = nat_lt most_bytes (length b.payload) || nat_lt s.sending.queue_bytes (payload_bytes s.queue + length b.payload)
+
   pub full_has_none : s.sending.queue_size ≤ length s.queue → finds_no_room b s ≡ true
-  full_has_none full = let test : is_full s ≡ true = grind (arith, nat_tests, full) in ap (λ (f : Bool). f || nat_lt most_bytes (length b.payload)) test
+  full_has_none full =
+      let many : nat_le s.sending.queue_size (length s.queue) ≡ true = grind (arith, nat_tests, full) in
+      one_of_two (is_full b s) (nat_lt most_bytes (length b.payload)) (one_of_two (nat_le s.sending.queue_size (length s.queue)) (nat_lt s.sending.queue_bytes (payload_bytes s.queue + length b.payload)) many)
 
-  pub large_has_none : nat_lt most_bytes (length b.payload) ≡ true → finds_no_room b s ≡ true
-  large_has_none large = by_test (is_full s)
-    where
-      by_test : (f : Bool) → (f || nat_lt most_bytes (length b.payload)) ≡ true
-      by_test true = refl
-      by_test false = large
-
-  pub small_has_room : length s.queue < s.sending.queue_size → nat_lt most_bytes (length b.payload) ≡ false → finds_no_room b s ≡ false
-  small_has_room room small = let test : is_full s ≡ false = grind (arith, nat_tests, room) in ap (λ (f : Bool). f || nat_lt most_bytes (length b.payload)) test ∙ small
+  -- where fewer wait than may it goes by its bytes
+  pub room_by_bytes : length s.queue < s.sending.queue_size → finds_no_room b s ≡ has_too_many
+  room_by_bytes room =
+      let few : nat_le s.sending.queue_size (length s.queue) ≡ false = grind (arith, nat_tests, room) in
+      either_order (nat_le s.sending.queue_size (length s.queue)) (nat_lt s.sending.queue_bytes (payload_bytes s.queue + length b.payload)) (nat_lt most_bytes (length b.payload)) few
 
   -- what finds room meets no full queue
-  pub is_not_full : finds_no_room b s ≡ false → is_full s ≡ false
-  is_not_full room = by_test (is_full s) room
-    where
-      by_test : (f : Bool) → (f || nat_lt most_bytes (length b.payload)) ≡ false → f ≡ false
-      by_test true r = r
-      by_test false r = refl
+  pub is_not_full : finds_no_room b s ≡ false → is_full b s ≡ false
+  is_not_full room = (none_of_two (is_full b s) (nat_lt most_bytes (length b.payload)) room).0
 
   abbrev pub behind : SenderData
   behind = record s { queue = s.queue ++ b ∷ [] }
@@ -76,6 +108,19 @@ module _ (b : BatchData) (s : SenderData) where
   admitted_is : finds_no_room b s ≡ false → admitted b s ≡ behind
   admitted_is room = ap (λ (f : Bool). cond f s behind) room
 
+  -- with one more the queue isn't beyond its bounds
+  fits_behind : is_full b s ≡ false → Fits behind
+  fits_behind room =
+      let tests = none_of_two (nat_le s.sending.queue_size (length s.queue)) (nat_lt s.sending.queue_bytes (payload_bytes s.queue + length b.payload)) room in
+      let few : nat_le s.sending.queue_size (length s.queue) ≡ false = tests.0 in
+      let light : nat_lt s.sending.queue_bytes (payload_bytes s.queue + length b.payload) ≡ false = tests.1 in
+      let fewer : length s.queue < s.sending.queue_size = grind (arith, nat_tests, few) in
+      let lighter : payload_bytes s.queue + length b.payload ≤ s.sending.queue_bytes = grind (arith, nat_tests, light) in
+      record {
+        few = omega (arith, fewer, length-append s.queue (b ∷ []));
+        light = omega (arith, lighter, payload_bytes-append s.queue (b ∷ []));
+      }
+
   -- one more waits
   pub took_one : finds_no_room b s ≡ false → Took 1 s behind
   took_one room =
@@ -83,12 +128,11 @@ module _ (b : BatchData) (s : SenderData) where
       let last : length (s.queue ++ b ∷ []) - 1 ≡ length s.queue = omega (arith, size) in
       let front : take (length (s.queue ++ b ∷ []) - 1) (s.queue ++ b ∷ []) ≡ s.queue =
       ap (λ (n : ℕ). take n (s.queue ++ b ∷ [])) last ∙ take-append_seam s.queue (b ∷ []) in
-      let test : is_full s ≡ false = is_not_full room in
       record {
         back = ap (λ (q : List BatchData). let y : SenderData = record s { queue = q } in y) front;
         count = omega (arith, size);
         settings = refl;
-        room = λ fits. let some : length s.queue < s.sending.queue_size = grind (arith, nat_tests, test) in omega (arith, size, some);
+        room = λ fits. fits_behind (is_not_full room);
       }
 
   -- its spans were dropped

@@ -103,8 +103,10 @@ pub within_with : (moment clock : ℕ) (s : State) → IsWithinLimits (at moment
 within_with moment clock s within = record {
   rows_are = within.rows_are;
   queue_size_is = within.queue_size_is;
+  queue_bytes_is = within.queue_bytes_is;
   num_consumers_is = within.num_consumers_is;
   queue_fits = within.queue_fits;
+  queue_bytes_fit = within.queue_bytes_fit;
   active_fit = within.active_fit;
   queue_short = within.queue_short;
   active_short = within.active_short;

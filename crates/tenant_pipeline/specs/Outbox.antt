@@ -3,7 +3,7 @@
 use Rattle.std.specs.Prelude.{None, ◌≡◌, ◌≢◌, ◌<◌, ◌≤◌, ◌+◌, ◌++◌, ℕ, zero, suc, List, length}
 use Rattle.drop_ledger.specs.declared.places.Place.TheVariants.{Undecided}
 use Rattle.drop_ledger.specs.Ledger.{LedgerData}
-use Rattle.send_queue.specs.Sender.{BatchData, SenderData, taken_back}
+use Rattle.send_queue.specs.Sender.{BatchData, SenderData, payload_bytes, taken_back}
 use Rattle.send_queue.specs.declared.settled.Settled.{Settled}
 use Rattle.send_queue.specs.declared.settled.Settled.TheVariants as settled
 use Rattle.span_batcher.specs.Batches.{Batch}
@@ -44,10 +44,16 @@ pub record Sends (change : State → State) (old new : Pipeline) : Type 0 where
       change s ≡ record s { sender = new.sender; ledger = new.ledger }
   pub same : new ≡ record old { sender = new.sender; ledger = new.ledger }
 
--- no more batches wait than the tenant's settings allow
+-- no more batches wait, and no more bytes of them, than a sender's settings allow
+pub record Fits (s : SenderData) : Type 0 where
+  pub few : length s.queue ≤ s.sending.queue_size
+  pub light : payload_bytes s.queue ≤ s.sending.queue_bytes
+
+-- nor than the tenant's do
 pub record HasRoom (own : Pipeline) : Type 0 where
   pub size : own.sender.sending.queue_size ≡ own.section.sending_queue.queue_size
-  pub fits : length own.sender.queue ≤ own.section.sending_queue.queue_size
+  pub bytes : own.sender.sending.queue_bytes ≡ own.section.sending_queue.queue_bytes
+  pub fits : Fits own.sender
 
 -- a group of spans, by key, waits for a batch from a moment on, and batches that this fills are offered: that changes
 -- what is pending, the sender and the counters alone, and makes of these what the rules make of them
@@ -79,7 +85,7 @@ pub record Took (offers : ℕ) (old new : SenderData) : Type 0 where
   pub back : undone offers new ≡ old
   pub count : length new.queue ≡ length old.queue + offers
   pub settings : new.sending ≡ old.sending
-  pub room : length old.queue ≤ old.sending.queue_size → length new.queue ≤ old.sending.queue_size
+  pub room : Fits old → Fits new
 
 -- how many spans of an active batch end with it
 abbrev pub spans_ended : Settled → ℕ

@@ -1,8 +1,8 @@
 -- How batches wait that aren't written yet, behind those that are (the Collector's exporterhelper, as `tenant_rules`
 -- has it).
-use Rattle.std.specs.Prelude.{◌≡◌, ◌<◌, ◌≤◌, ◌+◌, ℕ, Bool, List, [], length, map}
+use Rattle.std.specs.Prelude.{◌≡◌, ◌<◌, ◌≤◌, ◌+◌, ◌^◌, ℕ, Bool, true, false, List, [], length, map, Option, None, Some}
 use Rattle.drop_ledger.specs.Ledger.{LedgerData}
-use Rattle.send_queue.specs.Sender.{SenderData}
+use Rattle.send_queue.specs.Sender.{SenderData, payload_bytes}
 use Rattle.span_batcher.specs.Batches.{Batch}
 use Rattle.span_batcher.specs.Maps.{spans_of}
 use Rattle.tail_policy.specs.declared.note.TraceNote.{TraceNote}
@@ -17,16 +17,29 @@ use Rattle.tenant_pipeline.specs.declared.pipeline.Pipeline.{Pipeline}
 use Rattle.tenant_pipeline.specs.declared.unsent.Leaving.{Leaving}
 use Rattle.tenant_pipeline.specs.StateIn.{all_written, batch_at, unsent_at, view_in, with_behind}
 use Rattle.tenant_pipeline.specs.Invariant.{PipelineInvariantAt}
-use Rattle.tenant_pipeline.specs.Outbox.{AreThere, Sends}
+use Rattle.tenant_pipeline.specs.Outbox.{AreThere, Fits, Sends}
 
 -- how often a key is that of a span in a batch that isn't written, or in one that was dropped or written
 abbrev pub count_left : Leaving → ℕ → ℕ
 count_left leaving key = count key leaving.gone.items + count key (spans_of leaving.unsent)
 
+-- the bytes that a drain's batches will have once they are written are counted
+abbrev pub IsWeighed : Part TraceNote → Leaving → Type 0
+IsWeighed p leaving = leaving.bytes ≡ payload_bytes (unsent_at p leaving.unsent)
+
 -- whether a batch of spans, by key, finds no room behind those that wait
 abbrev pub has_no_room : Part TraceNote → Batch ℕ → (unsent : List (Batch ℕ)) → SenderData → Bool
 has_no_room p batch unsent sender =
     finds_no_room (as_sent (batch_at p batch)) (with_behind (unsent_at p unsent) sender)
+
+-- nothing where a batch finds no room behind those of a drain, and else how many bytes it will have, with which theirs
+-- are few
+abbrev pub IsSizeIn : Option ℕ → Part TraceNote → Batch ℕ → Leaving → SenderData → Type 0
+IsSizeIn None p batch leaving sender = has_no_room p batch leaving.unsent sender ≡ true
+IsSizeIn (Some size) p batch leaving sender =
+    (size ≡ length (as_sent (batch_at p batch)).payload)
+    × (has_no_room p batch leaving.unsent sender ≡ false)
+    × (leaving.bytes + size ≤ 2 ^ 42)
 
 -- batches of pending spans, by key, are offered behind those that wait: what that makes of the batches and the counters
 -- is what the rules make of them, where the part has the spans; each key is that of a batch that isn't written, or gone
@@ -37,8 +50,8 @@ pub record AddsAll (p : Part TraceNote) (batches : List (Batch ℕ)) (sender : S
       → all_queued (all_sent (map (batch_at p) batches)) s
       ≡ record s { sender = with_behind (unsent_at p new.unsent) sender; ledger = l' }
   pub gone : (key : ℕ) → count_left new key ≡ count_left old key + count key (spans_of batches)
-  pub room : length sender.queue + length old.unsent ≤ sender.sending.queue_size
-      → length sender.queue + length new.unsent ≤ sender.sending.queue_size
+  pub room : Fits (with_behind (unsent_at p old.unsent) sender) → Fits (with_behind (unsent_at p new.unsent) sender)
+  pub weighed : IsWeighed p new
   pub pending : l'.places.pending + length (spans_of batches) ≡ l.places.pending
 
 -- the next batch was written, and its spans left the stores, or nothing has changed: the rules see no change

@@ -22,7 +22,7 @@ ghost use Rattle.tenant_pipeline.specs.Outbox.{AreThere, HasRoom};
 ghost use Rattle.tenant_pipeline.specs.StateIn.{counts_in, part_in, policies_of, state_in, waiting_of, written_state_in, written_with};
 ghost use Rattle.tenant_pipeline.specs.Invariant.{PipelineInvariantAt, PipelineInvariantFrom, IsSwept};
 ghost use Rattle.tenant_pipeline.specs.Undo.{TakesBack};
-ghost use Rattle.tenant_pipeline.specs.Unsent.{count_left};
+ghost use Rattle.tenant_pipeline.specs.Unsent.{IsWeighed, count_left};
 ghost use Rattle.tenant_stores.specs.Promises.{OthersUnchanged};
 
 use crate::pipeline::Pipeline;
@@ -91,6 +91,7 @@ impl Pipeline {
         requires quiet { IsAfter (next_due self.old.batcher) moment }
         requires none { leaving.old.unsent ≡ [] }
         requires none_gone { leaving.old.gone.items ≡ [] }
+        requires none_weigh { leaving.old.bytes ≡ 0 }
         requires offers { undo.old.offers ≤ length self.old.sender.queue }
         ensures on_success { OnOk result (SendsAll moment (part_in self.old stores.now) self.old
             (written_with leaving.new.unsent (part_in self.old stores.now) self.new)) }
@@ -128,6 +129,7 @@ impl Pipeline {
         requires room { HasRoom (written_with leaving.old.unsent (part_in self.old stores.now)
             self.old) }
         requires offers { undo.old.offers ≤ length self.old.sender.queue }
+        requires weighed { IsWeighed (part_in self.old stores.now) leaving.old }
         ensures on_success { OnOk result (SendsRowUnsent moment number
             (part_in self.old stores.now) leaving.old.unsent leaving.new.unsent self.old self.new) }
         ensures gone { OnOk result ((key : ℕ)
@@ -138,6 +140,7 @@ impl Pipeline {
             → TakesBack undo.new start self.new }
         ensures offers { undo.new.offers ≤ length self.new.sender.queue }
         ensures sender { self.new.sender ≡ self.old.sender }
+        ensures weighed { OnOk result (IsWeighed (part_in self.old stores.now) leaving.new) }
     {
         let Some(row) = stores.row(self.tenant, number) else {
             unreachable!()
@@ -162,6 +165,7 @@ impl Pipeline {
         moment: u64,
     ) -> Result<(), AllocError>
         requires pending { self.old.ledger.places.pending ≡ length self.old.batcher.spans }
+        requires weighed { IsWeighed (part_in self.old stores.now) leaving.old }
         ensures on_success { OnOk result (SendsRestUnsent moment (part_in self.old stores.now)
             leaving.old.unsent leaving.new.unsent self.old self.new) }
         ensures gone { OnOk result ((key : ℕ)

@@ -1,9 +1,11 @@
 //! Spans that leave their rows become batches that wait to be sent.
 
-ghost use Rattle.std.specs.Prelude.{◌≡◌, ◌<◌, ◌≤◌, ◌+◌, ◌^◌, ◌++◌, [], ℕ, true, false, length, nat_lt, IfOk, MatchOption, OnOk, OnErr};
+ghost use Rattle.std.specs.Prelude.{◌≡◌, ◌<◌, ◌≤◌, ◌+◌, ◌^◌, ◌++◌, ◌||◌, [], ℕ, true, false, length, nat_lt, IfOk, MatchOption, OnOk, OnErr};
 ghost use Rattle.drop_ledger.specs.Ledger.{moved};
 ghost use Rattle.drop_ledger.specs.declared.places.Place.TheVariants.{Undecided, Pending};
+ghost use Rattle.send_queue.specs.Sender.{payload_bytes};
 ghost use Rattle.send_queue.specs.View.{batch_view};
+ghost use Rattle.span_batcher.specs.Blocks.{capped};
 ghost use Rattle.span_batcher.specs.State.{next_due, IsAfter};
 ghost use Rattle.span_batcher.specs.Machine.{threshold, cuts, added};
 ghost use Rattle.span_batcher.specs.Maps.{spans_of};
@@ -20,7 +22,7 @@ ghost use Rattle.tenant_pipeline.specs.declared.pipeline.Pipeline.{Pipeline as O
 ghost use Rattle.tenant_pipeline.specs.StateIn.{part_in, unsent_at};
 ghost use Rattle.tenant_pipeline.specs.Outbox.{arrivals_at, sent_at, AreThere, Offers, Sends, Groups, GroupsUnsent, Took, HasRoom};
 ghost use Rattle.tenant_pipeline.specs.Undo.{TakesBack};
-ghost use Rattle.tenant_pipeline.specs.Unsent.{count_left};
+ghost use Rattle.tenant_pipeline.specs.Unsent.{IsWeighed, count_left};
 
 use crate::pipeline::Pipeline;
 use crate::undo::{Undo, take_back_offers};
@@ -79,19 +81,34 @@ pub(crate) fn written(
     })
 }
 
-/// Whether a batch of the tenant's spans at these keys has more bytes than a batch may have. Nothing is written.
-pub(crate) fn is_too_large(
+/// How many bytes a batch of the tenant's spans at these keys has. Nothing is written. A number of which there is no
+/// `usize` is the greatest one.
+pub(crate) fn size_at(
     alloc: Global,
     stores: &Stores<TraceNote>,
     tenant: u32,
     keys: &[u32],
-) -> Result<bool, AllocError>
-    ensures { IfOk result (λ large. large ≡
-        nat_lt most_bytes (length (export_text (arrivals_at (part tenant stores.now) keys.now)))) }
+) -> Result<usize, AllocError>
+    ensures { IfOk result (λ size. size ≡
+        capped (length (export_text (arrivals_at (part tenant stores.now) keys.now)))) }
 {
     let spans = spans_by_keys(alloc, stores, tenant, keys)?;
     let text = BatchText::of(alloc, stores.texts(), spans.as_slice())?;
-    Ok(text.size() > MOST_BYTES)
+    Ok(text.size())
+}
+
+/// Whether a batch of a size that [`size_at`] told is larger than a batch may be, or than may still wait, where others
+/// of `ahead` bytes wait behind those of the queue.
+pub(crate) fn is_too_large(sender: &SendQueue, ahead: u64, size: usize) -> bool
+    ensures large { (bytes : ℕ) → size ≡ capped bytes → result ≡ (nat_lt most_bytes bytes
+        || nat_lt sender.now.sending.queue_bytes
+        (payload_bytes sender.now.queue + ahead + bytes)) }
+    ensures small { result ≡ false → ahead + size ≤ 2 ^ 42 }
+{
+    if size > MOST_BYTES {
+        return true;
+    }
+    ahead.saturating_add(size as u64) > sender.bytes_left()
 }
 
 /// A batch of the tenant's spans at these keys, as it is sent, where it finds room behind those that wait. It forms at
@@ -114,7 +131,7 @@ fn written_if_room(
     }
     let spans = spans_by_keys(alloc, stores, tenant, keys)?;
     let text = BatchText::of(alloc, stores.texts(), spans.as_slice())?;
-    if text.size() > MOST_BYTES {
+    if is_too_large(sender, 0, text.size()) {
         return Ok(None);
     }
     let payload = text.write(alloc)?;
@@ -334,6 +351,7 @@ impl Pipeline {
         requires pending { self.old.ledger.places.pending ≡ length self.old.batcher.spans }
         requires offers { undo.old.offers ≤ length self.old.sender.queue }
         requires few { length self.old.sender.queue < 2 ^ 32 }
+        requires weighed { IsWeighed (part_in self.old stores.now) leaving.old }
         ensures on_success { OnOk result (GroupsUnsent moment keys.now
             (part_in self.old stores.now) leaving.old.unsent leaving.new.unsent self.old self.new) }
 
@@ -345,6 +363,7 @@ impl Pipeline {
             → TakesBack undo.new start self.new }
         ensures offers { undo.new.offers ≤ length self.new.sender.queue }
         ensures sender { self.new.sender ≡ self.old.sender }
+        ensures weighed { OnOk result (IsWeighed (part_in self.old stores.now) leaving.new) }
     {
         if !self.batcher.fills(keys.len()) {
             return self.append_group(moment, keys);

@@ -1,13 +1,14 @@
 //! Batches of a drain that aren't written yet: their spans are in the stores still.
 
-ghost use Rattle.std.specs.Prelude.{◌≡◌, ◌<◌, ◌≤◌, ◌↔◌, ◌++◌, ◌∷◌, [], ℕ, length, drop, IsTrue, IfOk, MatchOption, OnOk, OnErr};
+ghost use Rattle.std.specs.Prelude.{◌≡◌, ◌≤◌, ◌↔◌, ◌++◌, ◌∷◌, [], ℕ, false, length, drop, IsTrue, IfOk, MatchOption, OnOk, OnErr};
+ghost use Rattle.send_queue.specs.Sender.{is_full};
 ghost use Rattle.span_batcher.specs.Maps.{spans_of};
 ghost use Rattle.tenant_stores.specs.Part.{part};
 ghost use Rattle.tenant_rules.specs.Batching.{as_sent};
 ghost use Rattle.tenant_pipeline.specs.StateIn.{batch_at, with_behind};
-ghost use Rattle.tenant_pipeline.specs.Unsent.{AddsAll, has_no_room};
+ghost use Rattle.tenant_pipeline.specs.Unsent.{AddsAll, IsWeighed, IsSizeIn};
 
-use crate::outbox::{is_too_large, written};
+use crate::outbox::{is_too_large, size_at, written};
 use drop_ledger::{Ledger, Place};
 use send_queue::{OfferFault, SendQueue};
 use span_batcher::Batch;
@@ -125,7 +126,8 @@ pub(crate) fn write(
     sender: &mut SendQueue,
     batch: &UnsentBatch,
 ) -> Result<(), AllocError>
-    requires room { length sender.old.queue < sender.old.sending.queue_size }
+    requires room { is_full (as_sent (batch_at (part tenant stores.now) batch.now)) sender.old
+        ≡ false }
     ensures on_success { OnOk result (sender.new ≡
         with_behind (as_sent (batch_at (part tenant stores.now) batch.now) ∷ []) sender.old) }
     ensures on_refusal { OnErr result (sender.new ≡ sender.old) }
@@ -144,6 +146,8 @@ pub(crate) struct Leaving {
     alloc: Global,
     /// Those that find room.
     pub(crate) unsent: Unsent,
+    /// How many bytes these will have, until the first of them is written.
+    pub(crate) bytes: u64,
     /// The keys of the spans in the others, and in those that were written. They are still stored.
     pub(crate) gone: Vec<u32>,
 }
@@ -152,33 +156,39 @@ impl Leaving {
     /// None so far, which takes no memory.
     pub(crate) fn none(alloc: Global) -> Leaving
         ensures unsent { result.unsent ≡ [] }
+        ensures bytes { result.bytes ≡ 0 }
         ensures gone { result.gone.items ≡ [] }
     {
         Leaving {
             alloc,
             unsent: Unsent::new(alloc),
+            bytes: 0,
             gone: Vec::new(alloc),
         }
     }
 
-    /// Whether a batch of the tenant's spans at these keys finds no room behind the others, whenever it forms. Its
-    /// spans are looked at only where fewer wait than may.
-    fn overflows(
+    /// How many bytes a batch of the tenant's spans at these keys will have, where it finds room behind the others,
+    /// whenever it forms. Its spans are looked at only where fewer batches wait than may.
+    fn size_if_room(
         &self,
         stores: &Stores<TraceNote>,
         tenant: u32,
         sender: &SendQueue,
         keys: &[u32],
-    ) -> Result<bool, AllocError>
-        ensures { IfOk result (λ overflows. (moment : ℕ) → overflows ≡ has_no_room
-            (part tenant stores.now) (record { moment = moment; spans = keys.now })
-            self.now.unsent sender.now) }
+    ) -> Result<Option<u64>, AllocError>
+        requires weighed { IsWeighed (part tenant stores.now) self.now }
+        ensures { IfOk result (λ found. (moment : ℕ) → IsSizeIn found (part tenant stores.now)
+            (record { moment = moment; spans = keys.now }) self.now sender.now) }
     {
         let room = (sender.capacity() as usize).saturating_sub(sender.queued());
         if room <= self.unsent.len() {
-            return Ok(true);
+            return Ok(None);
         }
-        is_too_large(self.alloc, stores, tenant, keys)
+        let size = size_at(self.alloc, stores, tenant, keys)?;
+        if is_too_large(sender, self.bytes, size) {
+            return Ok(None);
+        }
+        Ok(Some(size as u64))
     }
 
     /// A batch of the tenant's pending spans, by their keys, that formed at a moment, in milliseconds. It waits behind
@@ -193,17 +203,19 @@ impl Leaving {
         keys: &[u32],
     ) -> Result<(), AllocError>
         requires pending { length keys.now ≤ ledger.old.places.pending }
+        requires weighed { IsWeighed (part tenant stores.now) self.old }
         ensures { OnOk result (AddsAll (part tenant stores.now)
             (record { moment = moment; spans = keys.now } ∷ [])
             sender.now self.old self.new ledger.old ledger.new) }
     {
         let spans = keys.len() as u64;
-        if self.overflows(stores, tenant, sender, keys)? {
+        let Some(size) = self.size_if_room(stores, tenant, sender, keys)? else {
             self.gone.extend_from_slice(keys)?;
             ledger.move_spans(Place::Pending, Place::QueueFull, spans);
             return Ok(());
-        }
+        };
         self.unsent.push(self.alloc, moment, keys)?;
+        self.bytes += size;
         ledger.move_spans(Place::Pending, Place::Queued, spans);
         Ok(())
     }
@@ -218,6 +230,7 @@ impl Leaving {
         batches: &[Batch],
     ) -> Result<(), AllocError>
         requires pending { length (spans_of batches.now) ≤ ledger.old.places.pending }
+        requires weighed { IsWeighed (part tenant stores.now) self.old }
         ensures { OnOk result (AddsAll (part tenant stores.now) batches.now
             sender.now self.old self.new ledger.old ledger.new) }
     {

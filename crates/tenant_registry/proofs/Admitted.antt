@@ -7,6 +7,7 @@ use Rattle.toml.specs.Data.{Members}
 use Rattle.toml.specs.Parse.{parse_document}
 use Rattle.tail_settings.specs.Change.{only_tenant, free_number, joined, admitted_table, admitted}
 use Rattle.tail_settings.specs.Fault.{too_many}
+use Rattle.tail_settings.specs.QueueBytes.{bounded_tenant}
 use Rattle.tail_settings.specs.Settings.{TenantData, SettingsData, tenant_at, numbered_tenant, few_spans, document_in}
 use Rattle.tail_settings.proofs.Sound.{bound, chosen, ok_is, numbered_tenant-number}
 
@@ -16,10 +17,11 @@ unfolding admitted_table
 came s new document h =
     let table = bound (only_tenant document) _ new h in
     let number = bound (free_number s) _ new table.2 in
-    let tenant = bound (numbered_tenant number.0 s.tenants table.0) _ new number.2 in
-    let fits = bound (few_spans (joined s tenant.0).tenants) _ new tenant.2 in
+    let read = bound (numbered_tenant number.0 s.tenants table.0) _ new number.2 in
+    let tenant = bounded_tenant s.queue_bytes read.0 in
+    let fits = bound (few_spans (joined s tenant).tenants) _ new read.2 in
     let next = chosen (nat_lt (length s.tenants) 1000 && nat_lt s.next (2 ^ 32)) s.next number.0 too_many number.1 in
-    (tenant.0, numbered_tenant-number number.0 s.tenants table.0 tenant.0 tenant.1 ∙ sym next.1, ok_is (joined s tenant.0) new fits.2)
+    (tenant, numbered_tenant-number number.0 s.tenants table.0 read.0 read.1 ∙ sym next.1, ok_is (joined s tenant) new fits.2)
 
 -- the same with a text
 pub came_with : (s new : SettingsData) (text : List ℕ) → admitted s text ≡ Ok new → (t : TenantData) × (t.number ≡ s.next) × (joined s t ≡ new)

@@ -29,6 +29,7 @@ no_settings = record {
   };
   tenants = [];
   next = 0;
+  queue_bytes = 0;
 }
 
 -- under settings that came of the first ones this is the back end of the tenant with this number, or there is none

@@ -1,12 +1,13 @@
 -- No state has more rows, batches that wait and active batches than its settings allow, and no batch that is too long.
 use Rattle.std.proofs.Common.{◌≡◌, ℕ, zero, suc, ◌+◌, ◌<◌, ◌≤◌, List, [], ◌∷◌, ◌++◌, length, refl, sym, subst, ap, ◌∙◌, arith, length-append, Bool, true, false, cond, Option, Some, None}
-use Rattle.std.specs.Prelude.{drop, max, option_to_list, nat_lt, ◌==◌, ◌||◌}
+use Rattle.std.specs.Prelude.{drop, max, option_to_list, nat_le, nat_lt, ◌==◌, ◌||◌, ◌*◌}
 use Rattle.std.proofs.lemmas.Bool.Decides.{nat_tests}
 use Rattle.std.proofs.lemmas.List.{length-take}
 use Rattle.tail_settings.specs.Section.{SectionData}
 use Rattle.span_pool.specs.Stored.{same_bytes}
 use Rattle.send_retry.specs.Class.{AnswerData}
 use Rattle.send_queue.specs.declared.active.Retry.{Retry}
+use Rattle.send_queue.proofs.Queued.{payload_bytes-append}
 use Rattle.span_batcher.specs.State.{next_due}
 use Rattle.span_batcher.specs.Machine.{cuts, added, fired}
 use Rattle.span_batcher.specs.Machine as machine
@@ -16,7 +17,7 @@ use Rattle.drop_ledger.specs.declared.places.Place.TheVariants.{Undecided, Pendi
 use Rattle.tenant_rules.specs.Arrivals.{Arrival, valid, trace_of}
 use Rattle.tenant_rules.specs.Own.{Own, Post, Turn, Answer, Report, Drain, Retire}
 use Rattle.tenant_rules.specs.Fate.{SettledData, WaitingData, are_sampled}
-use Rattle.tenant_rules.specs.Sender.{BatchData, ActiveData, SenderData, is_full, most_bytes, finds_no_room, has_consumer, has_tickets, first_retry, due_by, under, without, replaced, retried, oldest, Choice, Retried, Oldest, NoBatch, choice_by, choice, sent_again, sent_first, FateData, Leaves, Stays, fate, in_flight, left_by, answered_by}
+use Rattle.tenant_rules.specs.Sender.{BatchData, ActiveData, SenderData, payload_bytes, is_full, most_bytes, finds_no_room, has_consumer, has_tickets, first_retry, due_by, under, without, replaced, retried, oldest, Choice, Retried, Oldest, NoBatch, choice_by, choice, sent_again, sent_first, FateData, Leaves, Stays, fate, in_flight, left_by, answered_by}
 use Rattle.tenant_rules.specs.Batching.{all_sent}
 use Rattle.tenant_rules.specs.Intake.{Verdict, shutting_down, counter_limit, exhausted, accepted}
 use Rattle.tenant_rules.specs.Sending.{sender, ended_in_flight}
@@ -27,7 +28,7 @@ use Rattle.tenant_rules.specs.Events.{size_of}
 use Rattle.tenant_rules.specs.State.{State, state}
 use Rattle.tenant_rules.specs.Timers.{recount, queued, all_queued, grouped, flushed, settle, sample, decide_row, remembered, decide, first_due, next_timer, is_batch, one_run, ran, enough, advanced}
 use Rattle.tenant_rules.specs.Machine.{held, sampled_in, has_row, joined, evict_first, evict_waiting, evicted, opens, joins, cached_or_opens, late_or_opens, goes, counted_in, come, all_come, verdict, posted, post, turned_by, all_moved, all_decided, closed, drain, effective, acts, next}
-use Rattle.tenant_rules.specs.Limits.{longest, longest_active, IsWithinLimits, StepsStayWithin, FrontsStayWithin, PastsStayWithin}
+use Rattle.tenant_rules.specs.Limits.{longest, longest_active, IsWithinLimits, StepsStayWithin, FrontsStayWithin, PastsStayWithin, UnboundedRefusesNone}
 use Rattle.tenant_rules.proofs.Walked.{decide_row-is}
 use Rattle.tenant_rules.proofs.Steps.{IsNext, next_is, under_ticket, flying_under}
 use Rattle.tenant_rules.proofs.AnyStep.{step_follows}
@@ -45,6 +46,9 @@ longest-push n (c ∷ bs) b all this =
     let both : max (length c.payload) (longest bs) ≤ n = all in
     let rest = longest-push n bs b (omega (arith, both)) this in
     let here : max (length c.payload) (longest (bs ++ b ∷ [])) ≤ n = omega (arith, both, rest) in here
+
+payload_bytes-push : (bs : List BatchData) (b : BatchData) → payload_bytes (bs ++ b ∷ []) ≡ payload_bytes bs + length b.payload
+payload_bytes-push bs b = omega (arith, payload_bytes-append bs (b ∷ []))
 
 longest_active-push : (n : ℕ) (xs : List ActiveData) (a : ActiveData) → longest_active xs ≤ n → length a.batch.payload ≤ n → longest_active (xs ++ a ∷ []) ≤ n
 longest_active-push n [] a all this = omega arith
@@ -82,9 +86,10 @@ longest_active-replaced n t a (b ∷ xs) this all =
 
 -- ---- batches are offered
 
--- a batch that is taken is short, and comes to a queue that isn't full
+-- a batch that is taken is short, and comes to a queue that isn't full, in batches and in bytes
 record FindsRoom (b : BatchData) (s : SenderData) : Type 0 where
   few : length s.queue < s.sending.queue_size
+  light : payload_bytes s.queue + length b.payload ≤ s.sending.queue_bytes
   short : length b.payload ≤ most_bytes
 
 neither : (a b : Bool) → (a || b) ≡ false → (a ≡ false) × (b ≡ false)
@@ -93,10 +98,12 @@ neither false b is = (refl, is)
 
 finds_room : (b : BatchData) (s : SenderData) → finds_no_room b s ≡ false → FindsRoom b s
 finds_room b s is =
-    let no = neither (is_full s) (nat_lt most_bytes (length b.payload)) is in
-    let full = no.0 in
+    let no = neither (is_full b s) (nat_lt most_bytes (length b.payload)) is in
+    let not_full = neither (nat_le s.sending.queue_size (length s.queue)) (nat_lt s.sending.queue_bytes (payload_bytes s.queue + length b.payload)) no.0 in
+    let full = not_full.0 in
+    let heavy = not_full.1 in
     let long = no.1 in
-    record { few = grind (arith, nat_tests, full); short = grind (arith, nat_tests, long) }
+    record { few = grind (arith, nat_tests, full); light = grind (arith, nat_tests, heavy); short = grind (arith, nat_tests, long) }
 
 queued_within : (n : ℕ) (b : BatchData) (s : State) → Within n s → Within n (queued b s)
 queued_within n b s k = by_test (finds_no_room b s.sender) refl
@@ -106,7 +113,8 @@ queued_within n b s k = by_test (finds_no_room b s.sender) refl
     by_test false is =
         let room = finds_room b s.sender is in
         let few = room.few in
-        omega (arith, few, length-append s.sender.queue (b ∷ []), longest-push most_bytes s.sender.queue b k.limits.queue_short room.short)
+        let light = room.light in
+        omega (arith, few, light, length-append s.sender.queue (b ∷ []), payload_bytes-push s.sender.queue b, longest-push most_bytes s.sender.queue b k.limits.queue_short room.short)
 
 all_queued_within : (n : ℕ) (bs : List BatchData) (s : State) → Within n s → Within n (all_queued bs s)
 all_queued_within n [] s k = k
@@ -344,6 +352,7 @@ turned_by_within n m (Oldest b) s is room k =
     let queue : length D.queue ≡ length (drop 1 D.queue) + 1 = omega (arith, ap length is) in
     let size : length (D.active ++ first ∷ []) ≡ length D.active + 1 = omega (arith, length-append D.active (first ∷ [])) in
     let both : longest D.queue ≡ max (length b.payload) (longest (drop 1 D.queue)) = ap longest is in
+    let bytes : payload_bytes D.queue ≡ length b.payload + payload_bytes (drop 1 D.queue) = ap payload_bytes is in
     let all = k.limits.queue_short in
     let short = longest_active-push most_bytes D.active first k.limits.active_short (omega (arith, all, both)) in
     omega (arith, short)
@@ -425,3 +434,27 @@ past_within w some follows (step ∷ past) = subst (λ (s : State). Within w.tai
 
 pub pasts_stay_within : PastsStayWithin
 pasts_stay_within w some wait sound past = (past_within w some (λ past step. (step_follows w some wait sound past step).state_is) past).limits
+
+-- ---- no bound of bytes
+
+payload_bytes-below : (bs : List BatchData) → longest bs ≤ most_bytes → payload_bytes bs ≤ length bs * 33554432
+payload_bytes-below [] all = omega arith
+payload_bytes-below (b ∷ bs) all =
+    let both : max (length b.payload) (longest bs) ≤ 33554432 = all in
+    let rest = payload_bytes-below bs (omega (arith, both)) in
+    omega (arith, both, rest)
+
+either_of : (full heavy long : Bool) → (full ≡ false → long ≡ false → heavy ≡ false) → ((full || heavy) || long) ≡ (full || long)
+either_of true heavy long light = refl
+either_of false true true light = refl
+either_of false true false light = let no : true ≡ false = light refl refl in absurd (cc)
+either_of false false long light = refl
+
+pub unbounded_refuses_none : UnboundedRefusesNone
+unbounded_refuses_none b s few most short =
+    either_of (nat_le s.sending.queue_size (length s.queue)) (nat_lt s.sending.queue_bytes (payload_bytes s.queue + length b.payload)) (nat_lt most_bytes (length b.payload)) (λ full_is long_is.
+    let one : length s.queue < s.sending.queue_size = grind (arith, nat_tests, full_is) in
+    let two : length b.payload ≤ 33554432 = grind (arith, nat_tests, long_is) in
+    let all = payload_bytes-below s.queue short in
+    let light : payload_bytes s.queue + length b.payload ≤ s.sending.queue_bytes = omega (arith, one, two, all, few, most) in
+    grind (arith, nat_tests, light))

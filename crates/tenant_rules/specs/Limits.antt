@@ -1,12 +1,14 @@
 -- No state has more rows, ids of decided traces, batches that wait and active batches than its settings allow
 -- (`num_traces` and `decision_cache` of the Collector's tailsamplingprocessor, `queue_size` and `num_consumers` of its
--- exporterhelper), and no batch of it has more bytes than any may have.
-use Rattle.std.specs.Prelude.{◌≡◌, ◌<◌, ◌≤◌, ◌+◌, ℕ, true, false, min, max, List, [], ◌∷◌, length}
+-- exporterhelper), its batches that wait have no more bytes together than they may, and no batch of it has more than
+-- any may have.
+use Rattle.std.specs.Prelude.{◌≡◌, ◌<◌, ◌≤◌, ◌+◌, ◌||◌, nat_le, nat_lt, ℕ, true, false, min, max, List, [], ◌∷◌, length}
 use Rattle.tail_settings.specs.Section.{SectionData}
+use Rattle.tail_settings.specs.SendingQueue.{most_queue_bytes}
 use Rattle.span_batcher.specs.Batches.{AreValidRules}
 use Rattle.tenant_rules.specs.Own.{Own}
 use Rattle.tenant_rules.specs.Events.{size_of}
-use Rattle.tenant_rules.specs.Sender.{BatchData, ActiveData, most_bytes}
+use Rattle.tenant_rules.specs.Sender.{BatchData, ActiveData, SenderData, payload_bytes, most_bytes, finds_no_room}
 use Rattle.tenant_rules.specs.Batching.{rules_of}
 use Rattle.tenant_rules.specs.State.{State, state}
 use Rattle.tenant_rules.specs.Timers.{IsFront}
@@ -23,13 +25,15 @@ longest_active [] = 0
 longest_active (a ∷ rest) = max (length a.batch.payload) (longest_active rest)
 
 -- as many rows are present as have opened, or as may be; sender and caches go by the section's settings; no more
--- batches wait than the queue takes, no more are active than there are consumers, none of either has more bytes than
--- any may have, and no cache has more ids than it may
+-- batches wait than the queue takes, and they have no more bytes together than it takes; no more are active than there
+-- are consumers, none of either has more bytes than any may have, and no cache has more ids than it may
 pub record IsWithinLimits (s : State) : Type 0 where
   pub rows_are : length s.settled + length s.waiting ≡ min s.opened s.section.tail_sampling.num_traces
   pub queue_size_is : s.sender.sending.queue_size ≡ s.section.sending_queue.queue_size
+  pub queue_bytes_is : s.sender.sending.queue_bytes ≡ s.section.sending_queue.queue_bytes
   pub num_consumers_is : s.sender.sending.num_consumers ≡ s.section.sending_queue.num_consumers
   pub queue_fits : length s.sender.queue ≤ s.section.sending_queue.queue_size
+  pub queue_bytes_fit : payload_bytes s.sender.queue ≤ s.section.sending_queue.queue_bytes
   pub active_fit : length s.sender.active ≤ s.section.sending_queue.num_consumers
   pub queue_short : longest s.sender.queue ≤ most_bytes
   pub active_short : longest_active s.sender.active ≤ most_bytes
@@ -52,3 +56,10 @@ abbrev pub PastsStayWithin : Type 0
 PastsStayWithin = (section : SectionData) → 0 < section.tail_sampling.num_traces →
     0 < section.tail_sampling.decision_wait → AreValidRules (rules_of section) → (past : List Own) →
     IsWithinLimits (state section past)
+
+-- where no bound of bytes was asked for none refuses a batch that would find room without it: as many batches as may
+-- wait never have so many
+abbrev pub UnboundedRefusesNone : Type 0
+UnboundedRefusesNone = (batch : BatchData) (s : SenderData) → s.sending.queue_size ≤ 100000
+    → s.sending.queue_bytes ≡ most_queue_bytes → longest s.queue ≤ most_bytes → finds_no_room batch s
+    ≡ (nat_le s.sending.queue_size (length s.queue) || nat_lt most_bytes (length batch.payload))

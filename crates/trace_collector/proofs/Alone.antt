@@ -525,7 +525,7 @@ welcomed : (old new : Session) (document content line : List â„•) (name : List â
 welcomed old new document content line name section (Ok table) are means added is welcome =
     let brings = arrives old.table document table means in
     let none = none_at_next old.table are (tenant_at old.table old.table.next) refl in
-    let same = tenant_one (tenant_in document) (record (brings.tenant) { number = 0 }) (record { number = 0; name = name; section = section }) brings.alone welcome.2 in
+    let same = tenant_one (tenant_in document) (record (brings.tenant) { number = 0 }) (record { number = 0; name = name; section = section }) (brings.alone are.unbounded) welcome.2 in
     subst (IsThere name section) (sym added.1) (record {
       number = old.table.next;
       tenant = brings.tenant;

@@ -11,10 +11,12 @@ use Rattle.toml.specs.Parse.{parse_document}
 use Rattle.tail_settings.specs.Change.{only_tenant, free_number, joined, admitted_table, admitted}
 use Rattle.tail_settings.specs.Fault.{FaultData, not_toml, out_of_range, double_tenant, too_many, ◌>>=◌}
 use Rattle.tail_settings.specs.Keys.{text_at, allowed}
+use Rattle.tail_settings.specs.QueueBytes.{bounded_tenant}
 use Rattle.tail_settings.specs.Section.{section_of}
+use Rattle.tail_settings.specs.SendingQueue.{most_queue_bytes}
 use Rattle.tail_settings.specs.Settings.{TenantData, SettingsData, section_at, tenant_at, name_of, numbered_tenant, few_spans, document_in}
 use Rattle.tail_settings.specs.Texts.{is_name}
-use Rattle.tail_settings.proofs.Sound.{ok_is, bound, chosen, numbered_tenant-number}
+use Rattle.tail_settings.proofs.Sound.{ok_is, bound, chosen, numbered_tenant-number, section_of-sound}
 use Rattle.trace_collector.specs.Answered.{arrived}
 use Rattle.trace_collector.specs.Alone.{tenant_in}
 use Rattle.trace_collector.proofs.Named.{IsNewTo}
@@ -24,7 +26,7 @@ pub record Arrives (settings : SettingsData) (document : List ℕ) (table : Sett
   pub tenant : TenantData
   pub new : IsNewTo settings tenant
   pub joins : joined settings tenant ≡ table
-  pub alone : tenant_in document ≡ Ok (record tenant { number = 0 })
+  pub alone : settings.queue_bytes ≡ most_queue_bytes → tenant_in document ≡ Ok (record tenant { number = 0 })
 
 -- after a step of which this came
 went : {A B : Type 0} (m : Result A FaultData) (k : A → Result B FaultData) (x : A) → m ≡ Ok x → (m >>= k) ≡ k x
@@ -53,11 +55,12 @@ reads before table name h =
       alone = rw (text.1, tested.1) (ap Ok new.1);
     }
 
--- the same of the tenant's whole table
+-- the same of the tenant's whole table, which bounds no bytes
 record Comes (before : List TenantData) (table : Members) (tenant : TenantData) : Type 0 where
   named : is_name tenant.name ≡ true
   new : list_any (λ t. bytes_eq tenant.name t.name) before ≡ false
   alone : numbered_tenant 0 [] table ≡ Ok (record tenant { number = 0 })
+  unbounded : tenant.section.sending_queue.queue_bytes ≡ most_queue_bytes
 
 comes : (number : ℕ) (before : List TenantData) (table : Members) (tenant : TenantData) → numbered_tenant number before table ≡ Ok tenant → Comes before table tenant
 unfolding numbered_tenant
@@ -67,7 +70,16 @@ comes number before table tenant h =
     let read : TenantData = record { number = number; name = name.0; section = section.0 } in
     let same : read ≡ tenant = ok_is read tenant section.2 in
     let parts = reads before table name.0 name.1 in
-    subst (Comes before table) same (record { named = parts.named; new = parts.new; alone = went (name_of [] table) _ name.0 parts.alone ∙ went (section_of table) _ section.0 section.1 })
+    subst (Comes before table) same (record {
+      named = parts.named;
+      new = parts.new;
+      alone = went (name_of [] table) _ name.0 parts.alone ∙ went (section_of table) _ section.0 section.1;
+      unbounded = (section_of-sound table section.0 section.1).sending_queue.queue_bytes;
+    })
+
+-- a bound that it has already
+bounded_again : (bytes : ℕ) (tenant : TenantData) → tenant.section.sending_queue.queue_bytes ≡ bytes → bounded_tenant bytes tenant ≡ tenant
+bounded_again bytes tenant is = ap (λ n. bounded_tenant n tenant) (sym is)
 
 admitted_brings : (settings : SettingsData) (document : List ℕ) (table : SettingsData) → admitted settings document ≡ Ok table → Arrives settings document table
 unfolding admitted admitted_table
@@ -75,15 +87,19 @@ admitted_brings settings document table h =
     let parsed = bound (document_in (parse_document document)) (admitted_table settings) table h in
     let one = bound (only_tenant parsed.0) _ table parsed.2 in
     let number = bound (free_number settings) _ table one.2 in
-    let tenant = bound (numbered_tenant number.0 settings.tenants one.0) _ table number.2 in
-    let fits = bound (few_spans (joined settings tenant.0).tenants) _ table tenant.2 in
+    let read = bound (numbered_tenant number.0 settings.tenants one.0) _ table number.2 in
+    let tenant = bounded_tenant settings.queue_bytes read.0 in
+    let fits = bound (few_spans (joined settings tenant).tenants) _ table read.2 in
     let next = chosen (nat_lt (length settings.tenants) 1000 && nat_lt settings.next (2 ^ 32)) settings.next number.0 too_many number.1 in
-    let parts = comes number.0 settings.tenants one.0 tenant.0 tenant.1 in
+    let parts = comes number.0 settings.tenants one.0 read.0 read.1 in
     record {
-      tenant = tenant.0;
-      new = record { number = numbered_tenant-number number.0 settings.tenants one.0 tenant.0 tenant.1 ∙ sym next.1; name = parts.named; new = parts.new };
-      joins = ok_is (joined settings tenant.0) table fits.2;
-      alone = ap (λ r. r >>= numbered_tenant 0 []) (went (document_in (parse_document document)) only_tenant parsed.0 parsed.1 ∙ one.1) ∙ parts.alone;
+      tenant = tenant;
+      new = record { number = numbered_tenant-number number.0 settings.tenants one.0 read.0 read.1 ∙ sym next.1; name = parts.named; new = parts.new };
+      joins = ok_is (joined settings tenant) table fits.2;
+      alone = λ none.
+          ap (λ r. r >>= numbered_tenant 0 []) (went (document_in (parse_document document)) only_tenant parsed.0 parsed.1 ∙ one.1)
+          ∙ parts.alone
+          ∙ ap (λ (t : TenantData). Ok (record t { number = 0 })) (sym (bounded_again settings.queue_bytes read.0 (parts.unbounded ∙ sym none)));
     }
 
 by_text : (b : Bool) (settings : SettingsData) (document : List ℕ) (table : SettingsData) → cond b (admitted settings document) (Err not_toml) ≡ Ok table → Arrives settings document table

@@ -16,6 +16,7 @@ use Rattle.std.proofs.lemmas.Option.{same_Some, slice_get_within, get_or_from_sl
 use Rattle.std.proofs.lemmas.Slice.Eq.{bytes_eq-Decides}
 use Rattle.tail_settings.specs.Change.{joined, struck}
 use Rattle.tail_settings.specs.Texts.{is_name, is_name_byte, is_long}
+use Rattle.tail_settings.specs.SendingQueue.{most_queue_bytes}
 use Rattle.tail_settings.specs.Settings.{SettingsData, TenantData, tenant_at, section_at, number_of, settings_of}
 use Rattle.tail_settings.proofs.Sound.{settings_of-sound}
 use Rattle.trace_collector.specs.Outcomes.{name_at}
@@ -32,6 +33,7 @@ pub record AreListed (settings : SettingsData) : Type 0 where
   pub distinct : AllPairs (λ t u. t.name ≢ u.name) settings.tenants
   pub rising : AllPairs (λ t u. t.number < u.number) settings.tenants
   pub below : All (λ t. t.number < settings.next) settings.tenants
+  pub unbounded : settings.queue_bytes ≡ most_queue_bytes
 
 not_feed : (byte : ℕ) → is_name_byte byte ≡ true → byte ≢ 10
 not_feed byte h e = grind (arith, nat_tests)
@@ -184,6 +186,7 @@ listed_text text settings means =
       distinct = sound.tenants.distinct;
       rising = λ a b d less within. omega (arith, sound.numbers a d (omega (arith, less, within)), sound.numbers b d within, less);
       below = λ k d within. omega (arith, sound.numbers k d within, sound.next, within);
+      unbounded = sound.queue_bytes;
     }
 
 pub name_of_number : (settings : SettingsData) (number : ℕ) (tenant : TenantData) → tenant_at settings number ≡ Some tenant → name_at settings number ≡ tenant.name
@@ -217,6 +220,7 @@ listed_joined settings tenant are is =
       distinct = all_pairs_push (λ t u. t.name ≢ u.name) settings.tenants tenant are.distinct (none_named tenant.name settings.tenants is.new);
       rising = all_pairs_push (λ t u. t.number < u.number) settings.tenants tenant are.rising (λ k d within. omega (arith, are.below k d within, is.number));
       below = All-push (λ t. t.number < settings.next + 1) settings.tenants tenant (λ k d within. omega (arith, are.below k d within)) (omega (arith, is.number));
+      unbounded = are.unbounded;
     }
 
 pub stays_joined : (settings : SettingsData) (tenant other : TenantData) (number : ℕ) → tenant_at settings number ≡ Some other → tenant_at (joined settings tenant) number ≡ Some other
@@ -261,6 +265,7 @@ listed_struck settings number are =
       distinct = AllPairs-filter (λ t u. t.name ≢ u.name) (λ (t : TenantData). not (t.number == number)) settings.tenants are.distinct;
       rising = AllPairs-filter (λ t u. t.number < u.number) (λ (t : TenantData). not (t.number == number)) settings.tenants are.rising;
       below = All-filter (λ (t : TenantData). not (t.number == number)) (λ t. t.number < settings.next) settings.tenants are.below;
+      unbounded = are.unbounded;
     }
 
 kept_found : {X : Type 0} (p q : X → Bool) → ((x : X) → q x ≡ true → p x ≡ false) → (xs : List X) → find p (filter (λ x. not (q x)) xs) ≡ find p xs

@@ -17,6 +17,7 @@ only settings name section = record {
   global = record (settings.global) { shards = 1 };
   tenants = record { number = 0; name = name; section = section } ∷ [];
   next = 1;
+  queue_bytes = settings.queue_bytes;
 }
 
 -- each of the commands may be answered by the line beside it, with its line feed

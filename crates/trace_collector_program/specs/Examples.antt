@@ -67,7 +67,7 @@ pub record Arguments : Type 0 where
   pub all : served_with (codes "--back-end-timeout" ∷ codes "4294967295" ∷ codes "--audit" ∷ codes "--senders" ∷ codes "4096"
       ∷ codes "--client-timeout" ∷ codes "1" ∷ codes "--verbose" ∷ codes "--request-timeout" ∷ codes "20"
       ∷ codes "--connections" ∷ codes "065536" ∷ codes "--admin-token-file" ∷ codes "token"
-      ∷ codes "--body-memory" ∷ codes "9999999999999999999"
+      ∷ codes "--body-memory" ∷ codes "9999999999999999999" ∷ codes "--queue-bytes" ∷ codes "1"
       ∷ codes "--admin" ∷ codes "[::1]:9464" ∷ [])
       ≡ Some (serve path (record {
         audit = true;
@@ -78,6 +78,7 @@ pub record Arguments : Type 0 where
         request_timeout = Some 20;
         back_end_timeout = Some 4294967295;
         body_memory = Some 9999999999999999999;
+        queue_bytes = Some 1;
         admin = Some (codes "[::1]:9464");
         admin_token_file = Some (codes "token");
       }))
@@ -95,6 +96,9 @@ pub record Arguments : Type 0 where
   pub too_much_memory : served_with (codes "--body-memory" ∷ codes "10000000000000000000" ∷ []) ≡ None
   pub memory_twice : served_with (codes "--body-memory" ∷ codes "20971520" ∷ codes "--body-memory" ∷ codes "20971520" ∷ [])
       ≡ None
+  pub no_queue : served_with (codes "--queue-bytes" ∷ codes "0" ∷ []) ≡ None
+  pub too_much_queue : served_with (codes "--queue-bytes" ∷ codes "10000000000000000000" ∷ []) ≡ None
+  pub queue_twice : served_with (codes "--queue-bytes" ∷ codes "1" ∷ codes "--queue-bytes" ∷ codes "2" ∷ []) ≡ None
   pub signed : served_with (codes "--senders" ∷ codes "+1" ∷ []) ≡ None
   pub no_digits : served_with (codes "--senders" ∷ [] ∷ []) ≡ None
   pub joined : served_with (codes "--senders=1" ∷ []) ≡ None

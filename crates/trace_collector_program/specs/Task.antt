@@ -16,6 +16,7 @@ pub record OptionsData : Type 0 where
   pub request_timeout : Option ℕ
   pub back_end_timeout : Option ℕ
   pub body_memory : Option ℕ
+  pub queue_bytes : Option ℕ
   pub admin : Option (List ℕ)
   pub admin_token_file : Option (List ℕ)
 
@@ -30,6 +31,7 @@ options_view o = record {
   request_timeout = o.request_timeout;
   back_end_timeout = o.back_end_timeout;
   body_memory = o.body_memory;
+  queue_bytes = o.queue_bytes;
   admin = option_map (λ text. text.now) o.admin;
   admin_token_file = option_map (λ text. text.now) o.admin_token_file;
 }
@@ -73,6 +75,7 @@ none_given = record {
   request_timeout = None;
   back_end_timeout = None;
   body_memory = None;
+  queue_bytes = None;
   admin = None;
   admin_token_file = None;
 }
@@ -113,11 +116,14 @@ with_text given name value =
     Some (record given { admin_token_file = Some value })
     else None
 
--- what is given with another option more whose value is so many bytes, which may stand once: the longest body has room
+-- what is given with another option more whose value is so many bytes, which may stand once: the longest body has room,
+-- and a queue has some
 abbrev pub with_bytes : OptionsData → List ℕ → List ℕ → Option OptionsData
 with_bytes given name value =
     if bytes_eq name (codes "--body-memory") && is_none given.body_memory then
     option_map (λ n. record given { body_memory = Some n }) (at_least most_body_bytes value)
+    else if bytes_eq name (codes "--queue-bytes") && is_none given.queue_bytes then
+    option_map (λ n. record given { queue_bytes = Some n }) (at_least 1 value)
     else with_text given name value
 
 -- what is given with another option more and its value: so many connections and senders, and milliseconds

@@ -3,6 +3,7 @@
 ghost use Rattle.std.specs.Prelude.{◌≡◌, IfOk, IfErr, Ok};
 ghost use Rattle.tail_settings.specs.Settings.{settings_of, settings_view};
 ghost use Rattle.trace_collector_program.specs.Fault.{IsOfSettings, IsOutside};
+ghost use Rattle.trace_collector_program.specs.Serve.{bounded_by, settings_served};
 
 use crate::descriptors::{ThreadCounts, too_low};
 use crate::reason::Reason;
@@ -30,14 +31,15 @@ struct Shortage {
     needed: u64,
 }
 
-/// The settings in a file.
+/// The settings in a file, in which each tenant's queue holds at most so many bytes, where that is asked for.
 pub fn settings_of_file(
     rt: &(impl Files + AllocGlobal),
     path: &str,
+    queue_bytes: Option<u64>,
     reason: &mut Reason,
 ) -> Result<Settings, ProgramFault> {
     let bytes = read_file(rt, path, reason)?;
-    match settings_of_bytes(rt.alloc(), bytes) {
+    match settings_of_bytes(rt.alloc(), bytes, queue_bytes) {
         Ok(settings) => Ok(settings),
         Err(fault) => {
             if matches!(fault, ProgramFault::Replay(ReplayFault::Settings(_))) {
@@ -48,12 +50,32 @@ pub fn settings_of_file(
     }
 }
 
-/// The settings in a file's bytes.
-fn settings_of_bytes(alloc: Global, bytes: Vec<u8>) -> Result<Settings, ProgramFault>
-    ensures { IfOk result (λ settings. settings_of bytes.items ≡ Ok (settings_view settings)) }
+/// The same of a file's bytes.
+fn settings_of_bytes(
+    alloc: Global,
+    bytes: Vec<u8>,
+    queue_bytes: Option<u64>,
+) -> Result<Settings, ProgramFault>
+    ensures { IfOk result (λ settings. settings_served queue_bytes bytes.items
+        ≡ Ok (settings_view settings)) }
 {
     let text = settings_text(bytes)?;
-    settings_in(alloc, text.as_str())
+    let settings = settings_in(alloc, text.as_str())?;
+    Ok(bounded(settings, queue_bytes))
+}
+
+/// These settings, in which each tenant's queue holds at most so many bytes, where that is asked for.
+fn bounded(settings: Settings, queue_bytes: Option<u64>) -> Settings
+    ensures { settings_view result ≡ bounded_by queue_bytes (settings_view settings) }
+{
+    match queue_bytes {
+        Some(bytes) => {
+            let mut settings = settings;
+            settings.bound_queues(bytes);
+            settings
+        }
+        None => settings,
+    }
 }
 
 /// Listens at an address.

@@ -15,7 +15,8 @@ usage: trace_collector replay SETTINGS
        trace_collector check SETTINGS
        trace_collector serve SETTINGS [--audit] [--verbose] [--connections N] [--senders N]
                        [--client-timeout MS] [--request-timeout MS] [--back-end-timeout MS]
-                       [--body-memory BYTES] [--admin HOST:PORT [--admin-token-file FILE]]
+                       [--body-memory BYTES] [--queue-bytes BYTES]
+                       [--admin HOST:PORT [--admin-token-file FILE]]
        trace_collector --help | --version
 
   replay SETTINGS  does the script on standard input, a command a line, under the settings in that
@@ -50,6 +51,9 @@ Behind `serve SETTINGS`, in any order and each once at most:
                          else it is waited for
   --body-memory BYTES    answers 503 to a post whose body has more than BYTES together with those
                          that other connections hold, 20971520 and more; else all are held
+  --queue-bytes BYTES    drops a batch with which those of its tenant that wait to be sent would have
+                         more than BYTES together, 1 and more, and counts it in queue_full; else
+                         their number alone is bounded
   --admin HOST:PORT      opens the admin port, which answers GET /, /metrics, /healthz, /readyz,
                          /tenants and /tenants/NAME, POST /tenants and /drain, DELETE /tenants/NAME;
                          then standard input isn't read, and POST /drain is its end
@@ -105,6 +109,7 @@ const NONE_GIVEN: ServeOptions<'static> = ServeOptions {
     request_timeout: None,
     back_end_timeout: None,
     body_memory: None,
+    queue_bytes: None,
     admin: None,
     admin_token_file: None,
 };
@@ -128,6 +133,8 @@ pub struct ServeOptions<'a> {
     pub back_end_timeout: Option<u32>,
     /// So many bytes, from 20,971,520, clients' bodies that are on their way may have together.
     pub body_memory: Option<u64>,
+    /// So many bytes, from 1, the batches of a tenant may have together while they wait to be sent.
+    pub queue_bytes: Option<u64>,
     /// The admin port has this address.
     pub admin: Option<&'a str>,
     /// The admin port asks for the token in this file.
@@ -308,6 +315,12 @@ fn with_bytes<'a>(given: ServeOptions<'a>, name: &str, value: &'a str) -> Option
         let body_memory = Some(at_least(LEAST_BODY_MEMORY, value)?);
         Some(ServeOptions {
             body_memory,
+            ..given
+        })
+    } else if name == "--queue-bytes" && given.queue_bytes.is_none() {
+        let queue_bytes = Some(at_least(1, value)?);
+        Some(ServeOptions {
+            queue_bytes,
             ..given
         })
     } else {

@@ -31,7 +31,7 @@ section_is = record {
     send_batch_max_size = lit≤ tt;
     none_or_more = λ more. absurd (omega (arith, more));
   };
-  sending_queue = record { queue_size = (lit≤ tt, lit≤ tt); num_consumers = (lit≤ tt, lit≤ tt) };
+  sending_queue = record { queue_size = (lit≤ tt, lit≤ tt); queue_bytes = refl; num_consumers = (lit≤ tt, lit≤ tt) };
   retry_on_failure = record {
     initial_interval = (lit≤ tt, lit≤ tt);
     max_interval = (lit≤ tt, lit≤ tt);
@@ -97,6 +97,7 @@ returns c = record {
       tenants = one_is;
       numbers = first_is;
       next = refl;
+      queue_bytes = refl;
     };
     slow_is = lit≤ tt;
     slow_is_not = λ sound. let short : 1099511627777 ≤ 2 ^ 40 = sound in omega (arith, short);

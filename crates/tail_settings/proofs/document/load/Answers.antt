@@ -3,6 +3,7 @@ use Rattle.std.proofs.lemmas.Bool.{le-leb}
 use Rattle.std.proofs.lemmas.List.{length-map}
 use Rattle.toml.specs.View.{table_view}
 use Rattle.tail_settings.specs.Global.{global_view}
+use Rattle.tail_settings.specs.SendingQueue.{most_queue_bytes}
 use Rattle.tail_settings.specs.Settings.{tenant_view, spans_of, settings_of, settings_of_table}
 use Rattle.tail_settings.proofs.Numbers.{rise_by_place, below_by_place}
 use Rattle.tail_settings.proofs.Rules.{settings_of-not_toml}
@@ -28,6 +29,7 @@ invariant_of-result c =
       few_tenants = c.in_ok-tenants.ensures.at_most_1000;
       few_spans = subst (λ (n : ℕ). n ≤ 2 ^ 31) c.spans.ensures.entries few;
       few_numbers = numbers;
+      few_bytes = omega arith;
       rising = rise_by_place es placed;
       below = below_by_place es placed c.len-next.result (omega (arith, c.len-next.ensures.len));
     }
@@ -40,7 +42,7 @@ returns-clause-on_success c =
     let few : total ≤ 2 ^ 31 = omega (arith, c.spans.ensures.meaning) in
     let next : length (map tenant_view es) ≡ c.len-next.result = length-map es tenant_view ∙ sym c.len-next.ensures.len in
     rw (c.in_ok-document.ensures, c.in_ok-global.ensures, c.in_ok-tenants.ensures.meaning, le-leb total (2 ^ 31) few)
-    (ap (λ (n : ℕ). Ok (record { global = global_view c.in_ok-global.global; tenants = map tenant_view es; next = n })) next)
+    (ap (λ (n : ℕ). Ok (record { global = global_view c.in_ok-global.global; tenants = map tenant_view es; next = n; queue_bytes = most_queue_bytes })) next)
 
 pub returns-clause-valid : goal.returns-clause-valid
 unfolding settings_of settings_of_table
@@ -51,4 +53,4 @@ returns-clause-valid c =
     let next : length (map tenant_view es) ≡ c.len-next.result = length-map es tenant_view ∙ sym c.len-next.ensures.len in
     settings_of-sound c.args.text.now _
     (rw (c.in_ok-document.ensures, c.in_ok-global.ensures, c.in_ok-tenants.ensures.meaning, le-leb total (2 ^ 31) few)
-    (ap (λ (n : ℕ). Ok (record { global = global_view c.in_ok-global.global; tenants = map tenant_view es; next = n })) next))
+    (ap (λ (n : ℕ). Ok (record { global = global_view c.in_ok-global.global; tenants = map tenant_view es; next = n; queue_bytes = most_queue_bytes })) next))

@@ -9,10 +9,10 @@ returns-in-Some c =
     let heap = heap_items c.self.inside.retries in
     let x = c.in-Some.first.now in
     let there = top_in heap x (c.in-Some.ensures.item.3.0) c.in-Some.ensures.lookup in
-    sym (top_first x heap c.self.inside.active c.self.invariant.same there (c.in-Some.ensures.greatest c.self.invariant.greatest))
+    sym (top_first x heap c.self.inside.active c.self.invariant.whole.same there (c.in-Some.ensures.greatest c.self.invariant.whole.greatest))
     ∙ ap (λ (s : SenderData). first_retry s.active) c.self.view_is
 
 pub returns-in-None : goal.returns-in-None
 returns-in-None c =
-    sym (none_first (heap_items c.self.inside.retries) c.self.inside.active c.self.invariant.same c.in-None.ensures.item.3)
+    sym (none_first (heap_items c.self.inside.retries) c.self.inside.active c.self.invariant.whole.same c.in-None.ensures.item.3)
     ∙ ap (λ (s : SenderData). first_retry s.active) c.self.view_is

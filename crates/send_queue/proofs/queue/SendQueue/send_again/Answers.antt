@@ -12,13 +12,13 @@ use Rattle.send_queue.proofs.queue.SendQueue.send_again.Goals as goal
 pub unreachable-requires : goal.unreachable-requires
 unreachable-requires c =
     let first : first_retry c.self.inside.active ≡ Some c.args.retry = ap (λ (s : SenderData). first_retry s.active) c.self.view_is ∙ c.requires.first in
-    let found = first_under c.args.retry c.self.inside.active c.self.invariant.ordered first in
+    let found = first_under c.args.retry c.self.inside.active c.self.invariant.whole.ordered first in
     let there : under c.args.retry.ticket c.self.inside.active ≡ Some found.0 = found.1 in
     let none : None ≡ under c.args.retry.ticket c.self.inside.active = c.in_default.ensures in
     absurd (cc)
 
 pub put-requires : goal.put-requires
-put-requires c = record { later = before_up_to c.self.inside.handed_out c.self.inside.active c.self.invariant.latest }
+put-requires c = record { later = before_up_to c.self.inside.handed_out c.self.inside.active c.self.invariant.whole.latest }
 
 pub unreachable-requires-in_default-remove : goal.unreachable-requires-in_default-remove
 unreachable-requires-in_default-remove c =
@@ -26,7 +26,7 @@ unreachable-requires-in_default-remove c =
     let t = c.args.retry.ticket in
     let x = active_view (c.self.inside.handed_out + 1, c.in_ok-again.again) in
     let first : first_retry bs ≡ Some c.args.retry = ap (λ (s : SenderData). first_retry s.active) c.self.view_is ∙ c.requires.first in
-    let found = first_under c.args.retry bs c.self.invariant.ordered first in
+    let found = first_under c.args.retry bs c.self.invariant.whole.ordered first in
     let there : under t (bs ++ x ∷ []) ≡ Some found.0 = under-append t bs x found.0 found.1 in
     let none : None ≡ under t (bs ++ x ∷ []) = c.in_default-remove.ensures.batch ∙ ap (under t) c.in_ok-put.ensures.on_success in
     absurd (cc)
@@ -35,8 +35,8 @@ pub unreachable-requires-in_default-pop : goal.unreachable-requires-in_default-p
 unreachable-requires-in_default-pop c =
     let bs = c.self.inside.active in
     let first : first_retry bs ≡ Some c.args.retry = ap (λ (s : SenderData). first_retry s.active) c.self.view_is ∙ c.requires.first in
-    let found = first_under c.args.retry bs c.self.invariant.ordered first in
-    let some : 0 < heap_len c.self.inside.retries = some_wait c.args.retry found.0 c.self.invariant found.1 found.2 in
+    let found = first_under c.args.retry bs c.self.invariant.whole.ordered first in
+    let some : 0 < heap_len c.self.inside.retries = some_wait c.args.retry found.0 c.self.invariant.whole found.1 found.2 in
     let popped : false ≡ true = c.in_default-pop.ensures.variant.1 some in
     absurd (cc)
 
@@ -47,12 +47,16 @@ invariant_of-self-2 c =
     let q = c.pop.new.self in
     let x = active_view (c.self.inside.handed_out + 1, c.in_ok-again.again) in
     let first : first_retry bs ≡ Some c.args.retry = ap (λ (s : SenderData). first_retry s.active) c.self.view_is ∙ c.requires.first in
-    let found = first_under c.args.retry bs c.self.invariant.ordered first in
+    let found = first_under c.args.retry bs c.self.invariant.whole.ordered first in
     let left : c.self.inside.handed_out < 2 ^ 62 = subst (λ (s : SenderData). s.handed_out < 2 ^ 62) (sym c.self.view_is) c.requires.tickets in
     let moved : c.remove.new.self ≡ without t bs ++ x ∷ [] = c.remove.ensures.rest ∙ (ap (without t) c.in_ok-put.ensures.on_success ∙ without-append t bs x found.0 found.1) in
-    subst (λ (bs : List ActiveData). IsWhole bs (heap_items q) (heap_len q) (heap_capacity q) c.self.inside.sending.num_consumers (c.self.inside.handed_out + 1))
-    (sym moved)
-    (whole_again c.args.retry found.0 x c.in-Some-pop.field-0 (heap_items q) (heap_len q) (heap_capacity q) c.self.invariant left first found.1 found.2 c.in-Some-pop.ensures.permutation c.in-Some-pop.ensures.heap_order c.in-Some-pop.ensures.len c.in-Some-pop.ensures.capacity refl (ap (λ (a : Active). a.due) c.in_ok-again.ensures))
+    record {
+      whole =
+          subst (λ (bs : List ActiveData). IsWhole bs (heap_items q) (heap_len q) (heap_capacity q) c.self.inside.sending.num_consumers (c.self.inside.handed_out + 1))
+          (sym moved)
+          (whole_again c.args.retry found.0 x c.in-Some-pop.field-0 (heap_items q) (heap_len q) (heap_capacity q) c.self.invariant.whole left first found.1 found.2 c.in-Some-pop.ensures.permutation c.in-Some-pop.ensures.heap_order c.in-Some-pop.ensures.len c.in-Some-pop.ensures.capacity refl (ap (λ (a : Active). a.due) c.in_ok-again.ensures));
+      left = c.self.invariant.left;
+    }
 
 pub returns-clause-job : goal.returns-clause-job
 returns-clause-job c =
@@ -60,7 +64,7 @@ returns-clause-job c =
     let t = c.args.retry.ticket in
     let x = active_view (c.self.inside.handed_out + 1, c.in_ok-again.again) in
     let first : first_retry bs ≡ Some c.args.retry = ap (λ (s : SenderData). first_retry s.active) c.self.view_is ∙ c.requires.first in
-    let found = first_under c.args.retry bs c.self.invariant.ordered first in
+    let found = first_under c.args.retry bs c.self.invariant.whole.ordered first in
     let there : Some (active_view (t, c.in-Some-remove.sent)) ≡ Some found.0 = c.in-Some-remove.ensures.batch ∙ (ap (under t) c.in_ok-put.ensures.on_success ∙ under-append t bs x found.0 found.1) in
     ap (λ (o : Option ActiveData). job_of (retried o) (inside_view c.self.inside)) (there ∙ sym found.1)
     ∙ ap (λ (s : SenderData). job_of (retried (under t s.active)) s) c.self.view_is

@@ -18,16 +18,20 @@ invariant_of-self c =
     let q = c.self.inside.retries in
     let a : ActiveData = active_view (t, c.in-Some.active.now) in
     let there : under t c.self.inside.active ≡ Some a = sym c.in-Some.ensures in
-    subst (λ (bs : List ActiveData). IsWhole bs (heap_items q) (heap_len q) (heap_capacity q) c.self.inside.sending.num_consumers c.self.inside.handed_out)
-    (sym c.remove.ensures.rest)
-    (whole_left t a c.self.invariant there (none_is a.due c.if-is_none.ensures))
+    record {
+      whole =
+          subst (λ (bs : List ActiveData). IsWhole bs (heap_items q) (heap_len q) (heap_capacity q) c.self.inside.sending.num_consumers c.self.inside.handed_out)
+          (sym c.remove.ensures.rest)
+          (whole_left t a c.self.invariant.whole there (none_is a.due c.if-is_none.ensures));
+      left = c.self.invariant.left;
+    }
 
 pub unreachable-requires : goal.unreachable-requires
 unreachable-requires c =
     let t = c.args.ticket in
     let a : ActiveData = active_view (t, c.in-Some.active.now) in
     let there : under t c.self.inside.active ≡ Some a = sym c.in-Some.ensures in
-    let pushed : false ≡ true = c.in_default-push.ensures.succeeds (room_left t a c.self.invariant there (none_is a.due c.if-is_none.ensures)) in
+    let pushed : false ≡ true = c.in_default-push.ensures.succeeds (room_left t a c.self.invariant.whole there (none_is a.due c.if-is_none.ensures)) in
     absurd (cc)
 
 pub invariant_of-self-in-Waits : goal.invariant_of-self-in-Waits
@@ -37,9 +41,13 @@ invariant_of-self-in-Waits c =
     let a : ActiveData = active_view (t, c.in-Some.active.now) in
     let b : ActiveData = record a { retry = state_view c.in-Waits.state; due = Some c.in-Waits.due } in
     let there : under t c.self.inside.active ≡ Some a = sym c.in-Some.ensures in
-    subst (λ (bs : List ActiveData). IsWhole bs (heap_items q) (heap_len q) (heap_capacity q) c.self.inside.sending.num_consumers c.self.inside.handed_out)
-    (sym (c.set_waiting.ensures a there))
-    (whole_waits t c.in-Waits.due a b _ (heap_items q) (heap_len q) (heap_capacity q) c.self.invariant there (none_is a.due c.if-is_none.ensures) refl refl refl refl c.in-Ok.ensures.permutation c.in-Ok.ensures.heap_order c.in-Ok.ensures.len c.in-Ok.ensures.capacity)
+    record {
+      whole =
+          subst (λ (bs : List ActiveData). IsWhole bs (heap_items q) (heap_len q) (heap_capacity q) c.self.inside.sending.num_consumers c.self.inside.handed_out)
+          (sym (c.set_waiting.ensures a there))
+          (whole_waits t c.in-Waits.due a b _ (heap_items q) (heap_len q) (heap_capacity q) c.self.invariant.whole there (none_is a.due c.if-is_none.ensures) refl refl refl refl c.in-Ok.ensures.permutation c.in-Ok.ensures.heap_order c.in-Ok.ensures.len c.in-Ok.ensures.capacity);
+      left = c.self.invariant.left;
+    }
 
 pub returns-in-Ok-clause-answered : goal.returns-in-Ok-clause-answered
 returns-in-Ok-clause-answered c =

@@ -24,6 +24,7 @@ invariant_of-self-2 c =
       few_tenants = tenants;
       few_spans = subst (λ (l : Entries). sum_by seen l ≤ 2 ^ 31) (sym now) few;
       few_numbers = numbers;
+      few_bytes = s.few_bytes;
       rising = subst Rise (sym now) (Rise-push es e s.next c.in_ok-name.ensures.number s.below s.rising);
       below = subst (All (λ (d : Entry). d.1.number < s.next + 1)) (sym now) (below-push es e s.next c.in_ok-name.ensures.number s.below);
     }
@@ -35,4 +36,4 @@ returns-clause-on_success c =
     let e : Entry = (c.in_ok-name.name, c.in_ok-name.tenant) in
     let now : c.insert.new.self.entries ≡ es ++ e ∷ [] = c.in_ok-insert.ensures.entries ∙ insert_entry-new string_eq s.tenants c.in_ok-name.name c.in_ok-name.tenant c.in_ok-name.ensures.name in
     c.in_ok-name.ensures.meaning
-    ∙ ap (λ (ts : List TenantData). Ok (record { global = global_view s.global; tenants = ts; next = s.next + 1 })) (sym (ap (map tenant_view) now ∙ map-append tenant_view es (e ∷ [])))
+    ∙ ap (λ (ts : List TenantData). Ok (record { global = global_view s.global; tenants = ts; next = s.next + 1; queue_bytes = s.queue_bytes })) (sym (ap (map tenant_view) now ∙ map-append tenant_view es (e ∷ [])))

@@ -14,7 +14,7 @@ returns-in_default-clause-section c =
 pub returns-in_default-clause-left : goal.returns-in_default-clause-left
 returns-in_default-clause-left c =
     let s = c.args.self.now in
-    ap (λ (ts : List TenantData). record { global = global_view s.global; tenants = ts; next = s.next }) (sym (all_left c.args.number s.tenants.entries (sym c.in_default.ensures)))
+    ap (λ (ts : List TenantData). record { global = global_view s.global; tenants = ts; next = s.next; queue_bytes = s.queue_bytes }) (sym (all_left c.args.number s.tenants.entries (sym c.in_default.ensures)))
 
 pub unreachable-requires : goal.unreachable-requires
 unreachable-requires c =
@@ -35,6 +35,7 @@ invariant_of-self c =
       few_tenants = tenants;
       few_spans = subst (λ (l : Entries). sum_by seen l ≤ 2 ^ 31) (sym now) few;
       few_numbers = s.few_numbers;
+      few_bytes = s.few_bytes;
       rising = subst Rise (sym now) (Rise-remove es i within s.rising);
       below = subst (All (λ (d : Entry). d.1.number < s.next)) (sym now) (All-remove (λ (d : Entry). d.1.number < s.next) es i s.below);
     }
@@ -50,5 +51,5 @@ returns-clause-left c =
     let s = c.args.self.now in
     let es = s.tenants.entries in
     let e : Entry = (c.in-Some-shift_remove_index._name, c.in-Some-shift_remove_index.tenant) in
-    ap (λ (ts : List TenantData). record { global = global_view s.global; tenants = ts; next = s.next })
+    ap (λ (ts : List TenantData). record { global = global_view s.global; tenants = ts; next = s.next; queue_bytes = s.queue_bytes })
     (ap (map tenant_view) c.shift_remove_index.ensures.entries ∙ sym (one_struck c.args.number es c.in-Some.place e s.rising (sym c.in-Some.ensures) (sym c.in-Some-shift_remove_index.ensures.entry)))

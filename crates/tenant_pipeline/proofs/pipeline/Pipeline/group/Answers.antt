@@ -3,6 +3,7 @@ use Rattle.std.specs.Result.{OnOk, OnErr}
 use Rattle.std.proofs.lemmas.Bool.Decides.{nat_tests}
 use Rattle.std.proofs.lemmas.Result.{on_ok_weaker}
 use Rattle.send_queue.specs.Sender.{BatchData}
+use Rattle.tail_settings.specs.SendingQueue.{SendingQueueData}
 use Rattle.span_batcher.specs.Batches.{Batch}
 use Rattle.span_batcher.specs.State as batcher
 use Rattle.span_batcher.specs.Machine.{PlannedData, threshold, cuts, uncut, added, taken}
@@ -119,12 +120,13 @@ note-requires c =
     let took = c.in-Ok.ensures.took in
     let room = c.requires.room in
     let short = queue_short own room in
-    let more = took.room (let fits = room.fits in let size = room.size in omega (arith, fits, size)) in
+    let more = (took.room room.fits).few in
+    let setting = ap (λ (x : SendingQueueData). x.queue_size) took.settings in
     let count = took.count in
     let few = c.requires.offers in
     let size = room.size in
     let range = own.section.sending_queue.queue_size_range in
-    omega (arith, more, count, few, size, range.1)
+    omega (arith, more, setting, count, few, size, range.1)
 
 pub returns-in-Ok-clause-gone : goal.returns-in-Ok-clause-gone
 returns-in-Ok-clause-gone c = λ key.

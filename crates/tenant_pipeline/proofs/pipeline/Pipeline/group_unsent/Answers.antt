@@ -17,7 +17,7 @@ use Rattle.tenant_pipeline.specs.declared.undo.Undo.{Undo}
 use Rattle.tenant_pipeline.specs.Undo.{TakesBack}
 use Rattle.tenant_pipeline.specs.Outbox.{AreThere, batch_at, Groups, GroupsUnsent}
 use Rattle.tenant_pipeline.specs.StateIn.{part_in, written_with}
-use Rattle.tenant_pipeline.proofs.Adding.{adds_sends, adds_left}
+use Rattle.tenant_pipeline.proofs.Adding.{adds_sends}
 use Rattle.tenant_pipeline.proofs.Draining.{back_same}
 use Rattle.tenant_pipeline.proofs.Grouping.{added_spans}
 use Rattle.tenant_pipeline.proofs.Grouped.{groups_by, undo_by, groups_appended, appended_spans, undo_appended}
@@ -80,6 +80,9 @@ returns-then-not-fills-clause-sender c =
     either c.append_group.result c.append_group.ensures.on_success c.append_group.ensures.on_refusal
     (λ is. ap (λ (o : Pipeline). o.sender) is) (λ (is : c.append_group.new.self ≡ c.args.self.now). ap (λ (o : Pipeline). o.sender) is)
 
+pub returns-then-not-fills-clause-weighed : goal.returns-then-not-fills-clause-weighed
+returns-then-not-fills-clause-weighed c = on_ok_weaker c.append_group.result (λ is. c.requires.weighed) c.append_group.ensures.on_success
+
 -- ---- where one is
 
 pub add_all-requires : goal.add_all-requires
@@ -94,7 +97,7 @@ add_all-requires c =
     let both = length-append own.batcher.spans c.args.keys.now in
     let ledger = ap (λ (l : LedgerData). l.places.pending) c.move_spans.ensures in
     let pending = c.requires.pending in
-    record { pending = omega (arith, size, whole, parts, both, ledger, pending) }
+    record { pending = omega (arith, size, whole, parts, both, ledger, pending); weighed = c.requires.weighed }
 
 pub returns-in_err-add_all-clause-back : goal.returns-in_err-add_all-clause-back
 returns-in_err-add_all-clause-back c = λ start back.
@@ -124,9 +127,8 @@ returns-clause-on_success c = λ there room.
     let is : c.exchange.new.self ≡ added c.args.moment c.args.keys.now own.batcher = c.exchange.ensures.pending ∙ c.in_ok-planned.ensures.pending in
     let n : ℕ = length c.args.keys.now in
     let sends = adds_sends p own bs c.args.leaving.now c.add_all.new.self n c.move_spans.new.self l' c.move_spans.ensures c.in_ok-add_all.ensures there' in
-    let left = adds_left p own bs c.args.leaving.now c.add_all.new.self n c.move_spans.new.self l' c.move_spans.ensures c.in_ok-add_all.ensures there' in
     subst (λ (b : batcher.State ℕ). let new : Pipeline = record mid { batcher = b } in Groups c.args.moment c.args.keys.now p (written_with us p own) (written_with us' p new)) (sym is)
-    (groups_by (written_with us p own) (written_with us' p mid) p c.args.moment c.args.keys.now sent there (ap (λ (b : List (Batch ℕ)). all_sent (map (batch_at p) b)) bs_are) sends refl left
+    (groups_by (written_with us p own) (written_with us' p mid) p c.args.moment c.args.keys.now sent there (ap (λ (b : List (Batch ℕ)). all_sent (map (batch_at p) b)) bs_are) sends refl c.in_ok-add_all.ensures.room
     (own_sound own c.requires.rules) c.requires.not_empty c.requires.timer c.requires.pending room)
 
 pub returns-clause-gone : goal.returns-clause-gone
@@ -163,3 +165,6 @@ returns-clause-offers c =
     let few = c.requires.offers in
     let noted = ap (λ (u : Undo). u.offers) c.note.ensures in
     omega (arith, few, noted)
+
+pub returns-clause-weighed : goal.returns-clause-weighed
+returns-clause-weighed c = c.in_ok-add_all.ensures.weighed

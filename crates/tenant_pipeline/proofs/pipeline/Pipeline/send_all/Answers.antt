@@ -1,5 +1,6 @@
 use Rattle.std.proofs.Common.{◌≡◌, ◌<◌, ◌≤◌, ◌+◌, ◌-◌, ◌++◌, ◌∙◌, ℕ, List, length, sym, ap, subst, refl, arith, Some}
 use Rattle.std.proofs.lemmas.Result.{on_ok_weaker}
+use Rattle.send_queue.specs.Sender.{payload_bytes}
 use Rattle.span_batcher.specs.Batches.{Batch}
 use Rattle.span_batcher.specs.Maps.{spans_of}
 use Rattle.tail_policy.specs.declared.note.TraceNote.{TraceNote}
@@ -10,10 +11,11 @@ use Rattle.tenant_stores.specs.Part.{Part, part}
 use Rattle.tenant_stores.specs.Shows.{row_shown}
 use Rattle.tenant_stores.proofs.Lists.{count-append}
 use Rattle.tenant_pipeline.specs.declared.pipeline.Pipeline.{Pipeline}
-use Rattle.tenant_pipeline.specs.StateIn.{part_in, policies_of, waiting_of, written_with}
+use Rattle.tenant_pipeline.specs.StateIn.{part_in, policies_of, unsent_at, waiting_of, written_with}
 use Rattle.tenant_pipeline.specs.Drains.{SendsAll, SendsRestUnsent, SendsRow, keys_if, sampled_keys}
 use Rattle.tenant_pipeline.specs.Invariant.{IsNoted}
 use Rattle.tenant_pipeline.specs.Outbox.{AreThere, HasRoom}
+use Rattle.tenant_pipeline.specs.Unsent.{IsWeighed}
 use Rattle.tenant_pipeline.proofs.Behind.{written_none}
 use Rattle.tenant_pipeline.proofs.Draining.{SentTo, none_sent, one_sent, row_found, row_of, all_left, back_same}
 use Rattle.tenant_pipeline.proofs.Verdicts.{keys_next, keys_end}
@@ -33,6 +35,9 @@ loop-number-init c =
           omega (arith, none, none_gone);
       back = λ start back. back;
       offers = c.requires.offers;
+      weighed =
+          let weigh = ap (λ (us : List (Batch ℕ)). payload_bytes (unsent_at p us)) c.requires.none in
+          c.requires.none_weigh ∙ sym weigh;
     }
 
 pub send_row-requires-clause-there : goal.send_row-requires-clause-there
@@ -63,6 +68,12 @@ send_row-requires-clause-room c =
 
 pub send_row-requires-clause-offers : goal.send_row-requires-clause-offers
 send_row-requires-clause-offers c = c.loop-number.invariant.offers
+
+pub send_row-requires-clause-weighed : goal.send_row-requires-clause-weighed
+send_row-requires-clause-weighed c =
+    let inv = c.loop-number.invariant in
+    let tenant : c.loop-number.self.tenant ≡ c.args.self.now.tenant = ap (λ (x : Pipeline). x.tenant) inv.sent.same in
+    subst (λ (t : ℕ). IsWeighed (part t c.args.stores.now) c.loop-number.leaving) (sym tenant) inv.weighed
 
 pub loop-number-preserved : goal.loop-number-preserved
 loop-number-preserved c =
@@ -99,10 +110,17 @@ loop-number-preserved c =
           omega (arith, was, now, keys, next, both);
       back = λ start back. c.send_row.ensures.back start (inv.back start back);
       offers = c.send_row.ensures.offers;
+      weighed = subst (λ (t : ℕ). IsWeighed (part t stores) c.send_row.new.leaving) tenant c.in_ok-send_row.ensures.weighed;
     }
 
 pub returns-in_err-send_row-clause-back : goal.returns-in_err-send_row-clause-back
 returns-in_err-send_row-clause-back c = λ start back. c.send_row.ensures.back start (c.loop-number.invariant.back start back)
+
+pub send_rest-requires-clause-weighed : goal.send_rest-requires-clause-weighed
+send_rest-requires-clause-weighed c =
+    let inv = c.loop-number.invariant in
+    let tenant : c.loop-number.self.tenant ≡ c.args.self.now.tenant = ap (λ (x : Pipeline). x.tenant) inv.sent.same in
+    subst (λ (t : ℕ). IsWeighed (part t c.args.stores.now) c.loop-number.leaving) (sym tenant) inv.weighed
 
 pub returns-in_err-send_rest-clause-back : goal.returns-in_err-send_rest-clause-back
 returns-in_err-send_rest-clause-back c = λ start back. back_same c.loop-number.undo start c.loop-number.self c.send_rest.new.self c.send_rest.ensures.same (c.loop-number.invariant.back start back)

@@ -5,6 +5,7 @@ use Rattle.tenant_pipeline.specs.declared.pipeline.Pipeline.{Pipeline}
 use Rattle.tenant_pipeline.specs.StateIn.{counts_in, part_in, policies_of, written_with}
 use Rattle.tenant_pipeline.specs.Drains.{sampled_keys}
 use Rattle.tenant_pipeline.specs.Undo.{TakesBack}
+use Rattle.tenant_pipeline.specs.Unsent.{IsWeighed}
 use Rattle.tenant_pipeline.proofs.Draining.{SentTo}
 use Rattle.tenant_pipeline.proofs.pipeline.Pipeline.send_all.Given as goal
 
@@ -19,6 +20,7 @@ invariant-loop-number l = record {
       + count key (sampled_keys (policies_of l.fn.self) (part_in l.fn.self l.stores).rows (waiting_numbers (counts_in l.fn.self)));
   back : (start : Pipeline) → TakesBack l.fn.undo start l.fn.self → TakesBack l.undo start l.self;
   offers : l.undo.offers ≤ length l.self.sender.queue;
+  weighed : IsWeighed (part_in l.fn.self l.stores) l.leaving;
 }
 
 abbrev pub decreases-loop-number : goal.decreases-loop-number

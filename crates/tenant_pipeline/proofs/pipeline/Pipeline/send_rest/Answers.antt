@@ -8,7 +8,7 @@ use Rattle.tenant_pipeline.specs.declared.pipeline.Pipeline.{Pipeline}
 use Rattle.tenant_pipeline.specs.Outbox.{AreThere, arrivals_at}
 use Rattle.tenant_pipeline.specs.StateIn.{part_in, written_with}
 use Rattle.tenant_pipeline.specs.Unsent.{AddsAll}
-use Rattle.tenant_pipeline.proofs.Adding.{rest_sends, rest_left}
+use Rattle.tenant_pipeline.proofs.Adding.{rest_sends}
 use Rattle.tenant_pipeline.proofs.Draining.{rest_none, rest_some}
 use Rattle.tenant_pipeline.proofs.pipeline.Pipeline.send_rest.Goals as goal
 
@@ -41,7 +41,7 @@ returns-clause-on_success c =
     let there' : AreThere p (own.batcher.spans ++ []) = subst (AreThere p) (sym (append-nil own.batcher.spans)) there in
     rest_some (written_with us p own) (written_with us' p mid) p m (as_sent (record { moment = m; spans = arrivals_at p own.batcher.spans })) some there refl
     (rest_sends p own (record { moment = m; spans = own.batcher.spans }) c.args.leaving.now c.add.new.self l' adds' there') refl
-    (rest_left p own (record { moment = m; spans = own.batcher.spans }) c.args.leaving.now c.add.new.self l' adds' there') room) c.add.ensures
+    adds'.room room) c.add.ensures
 
 pub returns-clause-gone : goal.returns-clause-gone
 returns-clause-gone c =

@@ -18,10 +18,11 @@ pub group_unsent-requires-clause-few : goal.group_unsent-requires-clause-few
 group_unsent-requires-clause-few c =
     let own = c.args.self.now in
     let p = part_in own c.args.stores.now in
-    let fits = c.requires.room.fits in
+    let size = c.requires.room.size in
+    let few = c.requires.room.fits.few in
     let both = length-append own.sender.queue (unsent_at p c.args.leaving.now.unsent) in
     let range = own.section.sending_queue.queue_size_range in
-    omega (arith, fits, both, range.1)
+    omega (arith, size, few, both, range.1)
 
 pub returns-then-samples-clause-on_success : goal.returns-then-samples-clause-on_success
 returns-then-samples-clause-on_success c =

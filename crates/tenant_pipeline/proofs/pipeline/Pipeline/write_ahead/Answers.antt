@@ -4,8 +4,13 @@ use Rattle.span_batcher.specs.Batches.{Batch}
 use Rattle.tenant_stores.specs.Counts.{count}
 use Rattle.tenant_rules.specs.Batching.{as_sent}
 use Rattle.tenant_pipeline.specs.StateIn.{batch_at, part_in, with_behind}
-use Rattle.tenant_pipeline.proofs.Ahead.{written_ahead}
+use Rattle.tenant_pipeline.proofs.Ahead.{room_ahead, written_ahead}
 use Rattle.tenant_pipeline.proofs.pipeline.Pipeline.write_ahead.Goals as goal
+
+pub write-requires : goal.write-requires
+write-requires c =
+    let own = c.args.self.now in
+    record { room = room_ahead own.clock own (part_in own c.args.stores.now) c.in-Some.next.now (drop 1 own.unsent) c.requires.invariant c.in-Some.ensures }
 
 pub returns-clause-ahead : goal.returns-clause-ahead
 returns-clause-ahead c =

@@ -26,7 +26,7 @@ add-requires c =
     let keys = ap length c.spans.ensures in
     let pending = c.loop-batch.invariant.pending in
     let few = c.requires.pending in
-    record { pending = omega (arith, size, both, keys, pending, few) }
+    record { pending = omega (arith, size, both, keys, pending, few); weighed = c.loop-batch.invariant.weighed }
 
 pub loop-batch-preserved : goal.loop-batch-preserved
 loop-batch-preserved c =
@@ -57,6 +57,7 @@ loop-batch-preserved c =
           let one = ap (count key) (append-nil u.spans) in
           omega (arith, was, now, split, both, one);
       room = λ fits. adds.room (inv.room fits);
+      weighed = adds.weighed;
       pending =
           let was = inv.pending in
           let now = adds.pending in
@@ -83,6 +84,7 @@ returns c =
           let none = ap (λ (b : List (Batch ℕ)). count key (spans_of b)) end in
           omega (arith, was, none);
       room = inv.room;
+      weighed = inv.weighed;
       pending =
           let was = inv.pending in
           let none = ap (λ (b : List (Batch ℕ)). length (spans_of b)) end in

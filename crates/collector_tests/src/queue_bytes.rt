@@ -1,0 +1,108 @@
+//! Stories of tenants whose queues hold so many bytes at most, which no script of `replay` can tell: no document says
+//! how many.
+
+use crate::lines::{answers_of, put_all, steps_of};
+use crate::sections::{BASE, settings_of};
+use std::alloc::Global;
+use std::test::Fail;
+use std::thread::Threads;
+use tenant_shard::Shard;
+
+/// A batch of one span has 34 bytes, and one of two has 64. Of 68 bytes two of one span may wait, and no third, each
+/// tenant's for itself. A batch that was handed out doesn't count, be it on its way or to be sent again.
+const TWO_WAIT: &str = "post a 0 11.21 = reply a 200 -
+post a 0 12.22 = reply a 200 -
+post a 0 13.23 = reply a 200 -
+post b 0 14.25 = reply b 200 -
+post b 0 15.27 = reply b 200 -
+turn 0 1000 = job a 1 11.21
+turn 0 1000 = job b 1 14.25
+report a 1000 = report a accepted=3 undecided=0 pending=0 queued=1 active=1 \
+exported=0 not_sampled=0 too_early=0 queue_full=1 \
+retry_exhausted=0 back_end_refused=0 back_end_rejected=0 invalid=0 over_budget=0
+report b 1000 = report b accepted=2 undecided=0 pending=0 queued=1 active=1 \
+exported=0 not_sampled=0 too_early=0 queue_full=0 \
+retry_exhausted=0 back_end_refused=0 back_end_rejected=0 invalid=0 over_budget=0
+answer a 1000 1 0 503 40 - = done a
+post a 1000 14.25 = reply a 200 -
+report a 2000 = report a accepted=4 undecided=0 pending=0 queued=2 active=1 \
+exported=0 not_sampled=0 too_early=0 queue_full=1 \
+retry_exhausted=0 back_end_refused=0 back_end_rejected=0 invalid=0 over_budget=0
+post a 2000 15.27 = reply a 200 -
+report a 3000 = report a accepted=5 undecided=0 pending=0 queued=2 active=1 \
+exported=0 not_sampled=0 too_early=0 queue_full=2 \
+retry_exhausted=0 back_end_refused=0 back_end_rejected=0 invalid=0 over_budget=0
+turn 0 40999 = idle 0
+turn 0 41000 = job a 2 11.21
+answer a 41000 2 0 200 - - = done a
+turn 0 41000 = job a 3 12.22
+post a 41000 16.25+16.26 = reply a 200 -
+report a 42000 = report a accepted=7 undecided=0 pending=0 queued=1 active=1 \
+exported=1 not_sampled=0 too_early=0 queue_full=4 \
+retry_exhausted=0 back_end_refused=0 back_end_rejected=0 invalid=0 over_budget=0";
+
+/// Of 67 bytes one may wait. One of three spans has 94, and finds no room where no other waits either.
+const ONE_WAITS: &str = "post a 0 11.21 = reply a 200 -
+post a 0 12.22 = reply a 200 -
+turn 0 1000 = job a 1 11.21
+report a 1000 = report a accepted=2 undecided=0 pending=0 queued=0 active=1 \
+exported=0 not_sampled=0 too_early=0 queue_full=1 \
+retry_exhausted=0 back_end_refused=0 back_end_rejected=0 invalid=0 over_budget=0
+post a 1000 16.25+16.26 = reply a 200 -
+report a 2000 = report a accepted=4 undecided=0 pending=0 queued=2 active=1 \
+exported=0 not_sampled=0 too_early=0 queue_full=1 \
+retry_exhausted=0 back_end_refused=0 back_end_rejected=0 invalid=0 over_budget=0
+answer a 2000 1 0 200 - - = done a
+turn 0 2000 = job a 2 16.25+16.26
+post a 2000 17.21+17.22+17.23 = reply a 200 -
+report a 3000 = report a accepted=7 undecided=0 pending=0 queued=0 active=2 \
+exported=1 not_sampled=0 too_early=0 queue_full=4 \
+retry_exhausted=0 back_end_refused=0 back_end_rejected=0 invalid=0 over_budget=0";
+
+/// A drain makes no more room: what it decides waits by the keys of its spans, and counts with the bytes that it will
+/// have.
+const DRAINED: &str = "post a 0 11.21 = reply a 200 -
+post a 0 12.22 = reply a 200 -
+post a 0 13.23 = reply a 200 -
+drain a 0 = done a
+report a 0 = report a accepted=3 undecided=0 pending=0 queued=2 active=0 \
+exported=0 not_sampled=0 too_early=0 queue_full=1 \
+retry_exhausted=0 back_end_refused=0 back_end_rejected=0 invalid=0 over_budget=0
+turn 0 0 = job a 1 11.21
+turn 0 0 = idle 0
+answer a 0 1 0 200 - - = done a
+turn 0 0 = job a 2 12.22
+answer a 0 2 0 200 - - = done a
+report a 0 = report a accepted=3 undecided=0 pending=0 queued=0 active=0 \
+exported=2 not_sampled=0 too_early=0 queue_full=1 \
+retry_exhausted=0 back_end_refused=0 back_end_rejected=0 invalid=0 over_budget=0";
+
+/// What the steps of a story are told by a shard of two tenants whose queues hold so many bytes each.
+fn told<R: Threads + Sync>(
+    rt: &R,
+    alloc: Global,
+    bytes: u64,
+    story: &str,
+) -> Result<Vec<u8>, Fail> {
+    let mut settings = settings_of(alloc, &[BASE, BASE])?;
+    settings.bound_queues(bytes);
+    let steps = steps_of(rt, alloc, &settings, story)?;
+    let mut shard = Shard::open(alloc, &settings, &[0, 1])?;
+    let outcomes = shard.run(steps.as_slice())?;
+    let mut out = Vec::new(alloc);
+    put_all(alloc, &mut out, outcomes.as_slice())?;
+    Ok(out)
+}
+
+#[test]
+fn batches_that_wait_have_so_many_bytes_at_most(rt: HostRuntime) -> Result<(), Fail> {
+    let cases = [(68, TWO_WAIT), (67, ONE_WAITS), (68, DRAINED)];
+    for (bytes, story) in cases {
+        let told = told(&rt, rt.alloc(), bytes, story)?;
+        assert!(rt;
+            told.as_slice() == answers_of(rt.alloc(), story)?.as_bytes(),
+            "{story}"
+        );
+    }
+    Ok(())
+}
