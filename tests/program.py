@@ -26,14 +26,15 @@ WAYS = b"""usage: trace_collector replay SETTINGS
        trace_collector check SETTINGS
        trace_collector serve SETTINGS [--audit] [--verbose] [--connections N] [--senders N]
                        [--client-timeout MS] [--request-timeout MS] [--back-end-timeout MS]
-                       [--body-memory BYTES] [--admin HOST:PORT [--admin-token-file FILE]]
+                       [--body-memory BYTES] [--queue-bytes BYTES]
+                       [--admin HOST:PORT [--admin-token-file FILE]]
        trace_collector --help | --version
 
 """
 SPAN = "0a20121e121c0a101111111111111111111111111111111112082121212121212121"
 # the options of `serve` that have a number, the greatest one, and the least one where it isn't 1
 MOST = {"--connections": 65_536, "--senders": 4_096, "--client-timeout": 2**32 - 1, "--request-timeout": 2**32 - 1,
-        "--back-end-timeout": 2**32 - 1, "--body-memory": 10**19 - 1}
+        "--back-end-timeout": 2**32 - 1, "--body-memory": 10**19 - 1, "--queue-bytes": 10**19 - 1}
 LEAST = {**dict.fromkeys(MOST, 1), "--body-memory": 20_971_520}
 failed = 0
 

@@ -17,7 +17,7 @@ import sys
 from pathlib import Path
 
 from serving import (admin, agreement, back_ends, bodies, clients, comings, ending, exporters, late, limits, loopback, memory,
-                     metrics, rest, short, talk)
+                     metrics, queue_bytes, rest, short, talk)
 from serving.runs import end, run
 
 HERE = Path(__file__).resolve().parent.parent
@@ -41,7 +41,7 @@ def named(*tests):
 
 
 TESTS = named(*loopback.TESTS, *exporters.TESTS, *clients.TESTS, *back_ends.TESTS, *late.TESTS, *comings.TESTS, *limits.TESTS, *bodies.TESTS,
-              *rest.TESTS, *ending.TESTS, *memory.TESTS, *admin.TESTS, *metrics.TESTS, *short.TESTS, agree)
+              *queue_bytes.TESTS, *rest.TESTS, *ending.TESTS, *memory.TESTS, *admin.TESTS, *metrics.TESTS, *short.TESTS, agree)
 # Those of these names alone.
 BY_HAND = named(*short.BY_HAND, *metrics.BY_HAND)
 
