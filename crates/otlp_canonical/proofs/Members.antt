@@ -1,6 +1,7 @@
 -- A value's fields go by: which of its members counts, and what it doesn't know.
-use Rattle.std.proofs.Common.{◌≡◌, ℕ, Bool, true, false, is_some, ◌==◌, if◌then◌else◌, ◌-◌, ◌<◌, List, [], ◌++◌, Option, Some, None, unwrap_or, IfSome, Result, Ok, Err, refl, sym, ap, ◌∙◌, append_assoc, append-nil, arith}
+use Rattle.std.proofs.Common.{◌≡◌, ℕ, Bool, true, false, not, is_some, ◌==◌, if◌then◌else◌, ◌-◌, ◌<◌, List, [], ◌++◌, Option, Some, None, unwrap_or, IfSome, Result, Ok, Err, refl, sym, ap, ◌∙◌, append_assoc, append-nil, arith}
 use Rattle.std.proofs.lemmas.Bool.{false≢true}
+use Rattle.std.proofs.lemmas.Bool.Decides.{nat_tests}
 use Rattle.std.specs.Str.{IsUtf8}
 use Rattle.pb_wire.specs.Grammar.{Entry, Datum, Varint, Eight, Bytes, Four, Group, IsField}
 use Rattle.pb_wire.specs.Reading.{next_at}
@@ -13,7 +14,7 @@ use Rattle.otlp_read.specs.Walk.{◌>>=◌, before, walk}
 use Rattle.otlp_read.proofs.Leaves.{utf8_yes}
 use Rattle.otlp_read.proofs.Opened.{opened}
 use Rattle.otlp_read.proofs.Walks.{bind_same, turn_end}
-use Rattle.otlp_canonical.specs.Anew.{gather, member_of, GivesWay, IsMember, IsValue, IsFirst}
+use Rattle.otlp_canonical.specs.Anew.{gather, member_of, GivesWay, IsMember, IsPutFor, IsValue, IsFirst}
 use Rattle.otlp_canonical.specs.Inner.{ReadAlike, PutFor}
 use Rattle.otlp_canonical.proofs.Dropped.{front_walked}
 use Rattle.otlp_canonical.proofs.Gathered.{gathered_on, gather_known, gather_unknown}
@@ -87,6 +88,17 @@ int_gives x = record { kind = int (int64 x); read = λ room. refl; arrays = refl
 pub double_gives : (bs : List ℕ) → GivesWay (Some (record { number = 4; value = Eight bs }))
 double_gives bs = record { kind = double bs; read = λ room. refl; arrays = refl; lists = refl }
 
+-- ---- a member that is put for another
+
+pub same_put : (field : Entry) → IsPutFor field field
+same_put field = record { known = λ m. m; read = λ room. refl }
+
+-- a bool that isn't 0 is read as 1
+pub one_put : (x : ℕ) → 1 < x → IsPutFor (record { number = 2; value = Varint 1 }) (record { number = 2; value = Varint x })
+one_put x some =
+    let off : (x == 0) ≡ false = grind (arith, nat_tests) in
+    record { known = λ m room v. refl; read = λ room. ap (λ (b : Bool). Ok (any_value (boolean (not b)) [])) off }
+
 -- ---- the fields that went by
 
 -- what is kept is read as it was, whatever stands before it
@@ -147,6 +159,19 @@ pub member_chosen : (d : ℕ) (text left rest : List ℕ) (member : Option Entry
     → Choosing d text rest (Some field) size
 member_chosen d text left rest member size field found gives known p =
     one_chosen d text left rest p.kept member (Some field) size size field found p.none p.again known p (gather_known known_of_any no_value p.kept (before left rest) field (known 0 no_value)) (λ room. replaced room p.kept (before left rest) member field gives known)
+
+-- the same with what is put for the member
+pub chosen_as : (d : ℕ) (text left : List ℕ) (field put : Entry) (size : ℕ) → IsPutFor put field → Choosing d text left (Some field) size → Choosing d text left (Some put) size
+chosen_as d text left field put size same p = record {
+  gone = p.gone;
+  parts = p.parts;
+  kept = p.kept;
+  none = p.none;
+  gathered = p.gathered;
+  again = p.again;
+  known = same.known p.known;
+  so_far = λ room rest. p.so_far room rest ∙ ap (λ (r : Result AnyValueData ReadFault). (r >>= λ v. Ok (keep_any v p.kept)) >>= λ v. walk (any_step_in room) d v rest) (same.read room);
+}
 
 -- a field that a value doesn't know
 abbrev pub Unchosen : Entry → Type 0

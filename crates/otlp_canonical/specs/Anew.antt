@@ -73,6 +73,11 @@ abbrev pub member_of : ℕ → Option Entry → Result AnyValueData ReadFault
 member_of room None = Ok no_value
 member_of room (Some field) = any_step_in room no_value field []
 
+-- one member may be put for the other: it is a member where that is one, and both are read as the same
+pub record IsPutFor (put member : Entry) : Type 0 where
+  pub known : IsMember member → IsMember put
+  pub read : (room : ℕ) → member_of room (Some member) ≡ member_of room (Some put)
+
 -- the member can be read, and leaves nothing to one that follows
 pub record GivesWay (member : Option Entry) : Type 0 where
   pub kind : KindData

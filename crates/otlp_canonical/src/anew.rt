@@ -2,11 +2,11 @@
 //! stand behind its value, be written where it is empty, or stand twice. A value may have members of which the last one
 //! wins. Fields that aren't known may stand anywhere.
 
-ghost use Rattle.std.specs.Prelude.{◌≡◌, ◌-◌, ◌<◌, ℕ, List, [], ◌++◌, true, Some, Ok, option_map, IfOk, IfSome};
+ghost use Rattle.std.specs.Prelude.{◌≡◌, ◌-◌, ◌<◌, ℕ, List, [], ◌++◌, true, false, Some, Ok, option_map, IfOk, IfSome};
 ghost use Rattle.pb_wire.specs.Grammar.{entry};
 ghost use Rattle.otlp_read.specs.AnyValue.{no_value, no_array, no_list, no_key_value, any_step_in, array_step_in, list_step_in, key_value_step};
 ghost use Rattle.otlp_read.specs.Walk.{walk};
-ghost use Rattle.otlp_canonical.specs.Anew.{gather, GivesWay, HasParts, IsFirst, IsMember, IsPair, IsPairIn, IsValue, Spelled};
+ghost use Rattle.otlp_canonical.specs.Anew.{gather, GivesWay, HasParts, IsFirst, IsMember, IsPair, IsPairIn, IsPutFor, IsValue, Spelled};
 ghost use Rattle.otlp_canonical.specs.Inner.{ReadAlike, FieldAlike, PutFor};
 
 use crate::attribute::{field_size, varint_size};
@@ -215,7 +215,24 @@ fn gives_way(member: Option<Field<'_>>) -> bool
     }
 }
 
-/// The member of a value that counts, if all before it give way.
+/// A value's field as it is written of what is read of it, but for its length: of a bool that isn't 0 it is 1.
+#[inline(always)]
+fn as_written(field: Field<'_>) -> Field<'_>
+    ensures { IsPutFor (entry result) (entry field.entry) }
+{
+    let Value::Varint(number) = field.value else {
+        return field;
+    };
+    if field.number != 2 || number < 2 {
+        return field;
+    }
+    Field {
+        number: 2,
+        value: Value::Varint(1),
+    }
+}
+
+/// The member of a value that counts, as it is written, if all before it give way.
 #[inline(always)]
 fn split_value(text: &[u8], depth: u32) -> Option<Chosen<'_>>
     ensures { IfSome result (λ chosen. IsValue depth text.now (option_map entry chosen.member)
@@ -236,7 +253,7 @@ fn split_value(text: &[u8], depth: u32) -> Option<Chosen<'_>>
         if !gives_way(member) {
             return None;
         }
-        member = Some(field);
+        member = Some(as_written(field));
         left = rest;
     }
     Some(Chosen { member, unknown })
@@ -267,6 +284,18 @@ pub fn parts_of(text: &[u8], room: u32) -> Option<Parts<'_>>
     Some(Parts { pair, chosen })
 }
 
+/// The parts of the attribute, where nothing else is to be put in them: `put_parts` puts such, whatever they hold.
+#[inline(always)]
+pub fn plain_parts(text: &[u8], room: u32) -> Option<Parts<'_>>
+    ensures { IfSome result (λ parts. HasParts room text.now parts) }
+{
+    let parts = parts_of(text, room)?;
+    match parts.chosen.member {
+        Some(field) if matches!(field.number, 5 | 6) => None,
+        _ => Some(parts),
+    }
+}
+
 /// The member that counts, if it is a string, a bool, a number or bytes.
 #[inline(always)]
 fn plain_member(parts: Parts<'_>, room: u32) -> Option<Field<'_>>
@@ -283,18 +312,6 @@ fn plain_member(parts: Parts<'_>, room: u32) -> Option<Field<'_>>
         return None;
     }
     Some(field)
-}
-
-/// Whether the attribute is canonical once `put_parts` has put it, but for what stands in an array or a list: the
-/// member that counts has no more bits than it takes.
-pub fn are_short(parts: Parts<'_>) -> bool {
-    let Some(field) = parts.chosen.member else {
-        return true;
-    };
-    match field.value {
-        Value::Varint(number) => field.number != 2 || number < 2,
-        _ => true,
-    }
 }
 
 /// Appends a value's member that is no message anew, and what isn't known in the value.
@@ -330,10 +347,30 @@ pub fn put_nested(
         → FieldAlike key_value_step no_key_value room 9 text.now copy.old.items copy.new.items) }
 {
     let start = copy.len();
-    if !put_pair(alloc, copy, text, room)? {
+    if !put_pair(alloc, copy, text, room, false)? {
         return Ok(false);
     }
     wrap_in_field(copy, start, 9)?;
+    Ok(true)
+}
+
+/// The same. Where it tells that it didn't, nothing is appended: the text is put apart first, where it takes its bytes
+/// once more.
+pub fn put_alone(
+    alloc: Global,
+    copy: &mut Vec<u8>,
+    text: &[u8],
+    room: u32,
+) -> Result<bool, AllocError>
+    ensures put { IfOk result (λ whole. whole ≡ true
+        → FieldAlike key_value_step no_key_value room 9 text.now copy.old.items copy.new.items) }
+    ensures not { IfOk result (λ whole. whole ≡ false → copy.new.items ≡ copy.old.items) }
+{
+    let mut anew = Vec::with_capacity(alloc, text.len())?;
+    if !put_pair(alloc, &mut anew, text, room, false)? {
+        return Ok(false);
+    }
+    put_bytes_field(copy, 9, anew.as_slice())?;
     Ok(true)
 }
 
@@ -414,6 +451,7 @@ fn put_split(
     pair: Pair<'_>,
     value: &[u8],
     room: u32,
+    joined: bool,
 ) -> Result<bool, AllocError>
     requires some { 0 < room }
     ensures { IsPairIn (room - 1) (101 - room) text.now pair.entry.key.now value.now
@@ -427,7 +465,7 @@ fn put_split(
         return Ok(whole);
     }
     let start = copy.len();
-    if !put_value(alloc, copy, value, room - 1)? {
+    if !put_value(alloc, copy, value, room - 1, joined)? {
         return Ok(false);
     }
     wrap_in_field(copy, start, 2)?;
@@ -435,34 +473,43 @@ fn put_split(
     Ok(whole)
 }
 
-/// Appends the text anew of an attribute that has several values. Tells whether it did.
+/// Appends the text anew of an attribute that has several values, by way of one that holds what all of them hold. Tells
+/// whether it did, as it doesn't inside another such value: each takes the bytes of its attribute, and is held until all
+/// inside is put.
 #[cycle(put)]
 fn put_several(
     alloc: Global,
     copy: &mut Vec<u8>,
     text: &[u8],
     room: u32,
+    joined: bool,
 ) -> Result<bool, AllocError>
     requires some { 0 < room }
     ensures { IfOk result (λ whole. whole ≡ true
         → ReadAlike key_value_step no_key_value room text.now copy.old.items copy.new.items) }
 {
+    if joined {
+        return Ok(false);
+    }
     let mut values = Vec::with_capacity(alloc, text.len())?;
     let Some(pair) = put_values(&mut values, text, room)? else {
         return Ok(false);
     };
-    let whole = put_split(alloc, copy, text, pair, values.as_slice(), room)?;
+    let whole = put_split(alloc, copy, text, pair, values.as_slice(), room, true)?;
     Ok(whole)
 }
 
-/// Appends the attribute's text anew. Tells whether it did, as it does where no array and no list stands twice in it or
-/// before another member, and nothing that isn't known in an array or a list.
+/// Appends the attribute's text anew, which stands in a value put together of several if it is `joined`. Tells whether
+/// it did, as it does where no array and no list stands twice in it or before another member, nothing that isn't known
+/// in an array or a list, and no several values in one of several values. What is left to the reader is sound all the
+/// same.
 #[cycle(put)]
 pub fn put_pair(
     alloc: Global,
     copy: &mut Vec<u8>,
     text: &[u8],
     room: u32,
+    joined: bool,
 ) -> Result<bool, AllocError>
     ensures { IfOk result (λ whole. whole ≡ true
         → ReadAlike key_value_step no_key_value room text.now copy.old.items copy.new.items) }
@@ -472,16 +519,22 @@ pub fn put_pair(
     }
     let depth = 101u32.saturating_sub(room);
     let Some(pair) = split_pair(text, depth) else {
-        let whole = put_several(alloc, copy, text, room)?;
+        let whole = put_several(alloc, copy, text, room, joined)?;
         return Ok(whole);
     };
-    let whole = put_split(alloc, copy, text, pair, pair.value, room)?;
+    let whole = put_split(alloc, copy, text, pair, pair.value, room, joined)?;
     Ok(whole)
 }
 
 /// Appends the value's text anew, in which one member at most counts.
 #[cycle(put)]
-fn put_value(alloc: Global, copy: &mut Vec<u8>, text: &[u8], room: u32) -> Result<bool, AllocError>
+fn put_value(
+    alloc: Global,
+    copy: &mut Vec<u8>,
+    text: &[u8],
+    room: u32,
+    joined: bool,
+) -> Result<bool, AllocError>
     ensures { IfOk result (λ whole. whole ≡ true
         → ReadAlike any_step_in no_value room text.now copy.old.items copy.new.items) }
 {
@@ -496,7 +549,7 @@ fn put_value(alloc: Global, copy: &mut Vec<u8>, text: &[u8], room: u32) -> Resul
         let whole = put_unknown::<AnyValue>(copy, text, chosen.unknown, depth)?;
         return Ok(whole);
     };
-    if !put_kind(alloc, copy, field, room - 1)? {
+    if !put_kind(alloc, copy, field, room - 1, joined)? {
         return Ok(false);
     }
     let whole = put_unknown::<AnyValue>(copy, text, chosen.unknown, depth)?;
@@ -510,6 +563,7 @@ fn put_kind(
     copy: &mut Vec<u8>,
     field: Field<'_>,
     room: u32,
+    joined: bool,
 ) -> Result<bool, AllocError>
     ensures { (d : ℕ) → IfOk result (λ whole. whole ≡ true
         → PutFor any_step_in IsFirst room d 0 (entry field.entry) copy.old.items copy.new.items) }
@@ -517,14 +571,14 @@ fn put_kind(
     let start = copy.len();
     match field.value {
         Value::Bytes(text) if field.number == 5 => {
-            if !put_array(alloc, copy, text, room)? {
+            if !put_array(alloc, copy, text, room, joined)? {
                 return Ok(false);
             }
             wrap_in_field(copy, start, 5)?;
             Ok(true)
         }
         Value::Bytes(text) if field.number == 6 => {
-            if !put_list(alloc, copy, text, room)? {
+            if !put_list(alloc, copy, text, room, joined)? {
                 return Ok(false);
             }
             wrap_in_field(copy, start, 6)?;
@@ -542,7 +596,13 @@ fn put_kind(
 
 /// Appends the array's text anew.
 #[cycle(put)]
-fn put_array(alloc: Global, copy: &mut Vec<u8>, text: &[u8], room: u32) -> Result<bool, AllocError>
+fn put_array(
+    alloc: Global,
+    copy: &mut Vec<u8>,
+    text: &[u8],
+    room: u32,
+    joined: bool,
+) -> Result<bool, AllocError>
     ensures { IfOk result (λ whole. whole ≡ true
         → ReadAlike array_step_in no_array room text.now copy.old.items copy.new.items) }
 {
@@ -562,7 +622,7 @@ fn put_array(alloc: Global, copy: &mut Vec<u8>, text: &[u8], room: u32) -> Resul
             return Ok(false);
         }
         let start = copy.len();
-        if !put_value(alloc, copy, value, room - 1)? {
+        if !put_value(alloc, copy, value, room - 1, joined)? {
             return Ok(false);
         }
         wrap_in_field(copy, start, 1)?;
@@ -573,7 +633,13 @@ fn put_array(alloc: Global, copy: &mut Vec<u8>, text: &[u8], room: u32) -> Resul
 
 /// Appends the text of the list of keys with values anew.
 #[cycle(put)]
-fn put_list(alloc: Global, copy: &mut Vec<u8>, text: &[u8], room: u32) -> Result<bool, AllocError>
+fn put_list(
+    alloc: Global,
+    copy: &mut Vec<u8>,
+    text: &[u8],
+    room: u32,
+    joined: bool,
+) -> Result<bool, AllocError>
     ensures { IfOk result (λ whole. whole ≡ true
         → ReadAlike list_step_in no_list room text.now copy.old.items copy.new.items) }
 {
@@ -593,7 +659,7 @@ fn put_list(alloc: Global, copy: &mut Vec<u8>, text: &[u8], room: u32) -> Result
             return Ok(false);
         }
         let start = copy.len();
-        if !put_pair(alloc, copy, pair, room - 1)? {
+        if !put_pair(alloc, copy, pair, room - 1, joined)? {
             return Ok(false);
         }
         wrap_in_field(copy, start, 1)?;

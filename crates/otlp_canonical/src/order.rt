@@ -155,7 +155,7 @@ fn is_sound(field: Field<'_>) -> bool
 
 /// Where the fields of a span stand.
 #[derive(Drop)]
-struct Placed {
+struct SpanRuns {
     /// Those of each place.
     places: [Run; 18],
 
@@ -164,7 +164,7 @@ struct Placed {
 }
 
 /// Where the fields of each place stand. None where the text isn't fields, or where a string isn't UTF-8.
-fn runs(text: &[u8], depth: u32) -> Option<Placed>
+fn runs(text: &[u8], depth: u32) -> Option<SpanRuns>
     ensures { IfSome result (λ runs. AllStand depth text.now runs.places) }
 {
     let mut runs = [Run {
@@ -191,7 +191,7 @@ fn runs(text: &[u8], depth: u32) -> Option<Placed>
         highest = highest.max(place);
         left = rest;
     }
-    Some(Placed {
+    Some(SpanRuns {
         places: runs,
         in_order,
     })

@@ -146,6 +146,8 @@ fn put_last<M: Placed>(
     if is_nothing(low) {
         return Ok(true);
     }
+    // It never is so: the field was found at this place, and the text is sound. `last_at` and `put_by_places` don't say
+    // that to this function, so it asks.
     if M::place(low) != place || !is_sound::<M>(low) {
         return Ok(false);
     }
@@ -172,7 +174,7 @@ fn put_pair_field(
         return Ok(true);
     }
     let start = copy.len();
-    if !put_pair(alloc, copy, text, room)? {
+    if !put_pair(alloc, copy, text, room, false)? {
         return Ok(false);
     }
     wrap_in_field(copy, start, number)?;
@@ -204,6 +206,7 @@ fn put_attributes<M: Placed>(
         let Value::Bytes(attribute) = field.value else {
             return Ok(false);
         };
+        // No message has its attributes at another number. The layout doesn't say so, and the field needs a tag of one byte.
         if field.number == 0 || field.number > 15 {
             return Ok(false);
         }

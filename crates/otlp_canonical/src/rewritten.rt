@@ -3,7 +3,7 @@
 
 ghost use Rattle.std.specs.Prelude.{◌≡◌, ◌-◌, ◌<◌, ◌++◌, ℕ, true, false, [], IfOk, IfSome};
 ghost use Rattle.pb_wire.specs.Grammar.{entry, Bytes, IsField};
-ghost use Rattle.otlp_canonical.specs.Anew.{held, HasParts, WrittenAnew};
+ghost use Rattle.otlp_canonical.specs.Anew.{WrittenAnew};
 ghost use Rattle.otlp_canonical.specs.Canonical.{CanonicalCopy};
 ghost use Rattle.otlp_canonical.specs.Defaults.{DefaultsAbove};
 ghost use Rattle.otlp_canonical.specs.Inner.{FieldAlike, PutFor};
@@ -12,7 +12,7 @@ ghost use Rattle.otlp_trace.specs.Defaults.{no_span};
 ghost use Rattle.otlp_read.specs.Value.{span_step};
 ghost use Rattle.otlp_read.specs.Walk.{numbered, read_with};
 
-use crate::anew::{Parts, are_short, parts_of, put_nested, put_parts, put_short};
+use crate::anew::{parts_of, plain_parts, put_alone, put_parts, put_short};
 use crate::attribute::{begins_otherwise, field_size, is_plain};
 use crate::defaults::is_default;
 use crate::joined::has_values;
@@ -51,36 +51,19 @@ fn stays(field: Field<'_>, size: usize, room: u32) -> bool {
     canonical && size == field_size(text.len())
 }
 
-/// The parts of the field, if it is an attribute that `put_parts` puts.
-fn parts_in(field: Field<'_>, room: u32) -> Option<Parts<'_>>
-    ensures { IfSome result (λ parts. HasParts room (held (entry field.entry).value) parts) }
-{
-    let Value::Bytes(text) = field.value else {
-        return None;
-    };
-    if field.number != 9 {
-        return None;
-    }
-    let parts = parts_of(text, room)?;
-    if are_short(parts) { Some(parts) } else { None }
-}
-
-/// Whether the field, of which `parts_in` finds nothing, is an attribute of one value, which is read and written.
-fn is_read(field: Field<'_>, room: u32) -> bool {
-    let Value::Bytes(text) = field.value else {
-        return false;
-    };
-    field.number == 9 && !has_values(text, 101u32.saturating_sub(room))
-}
-
-/// Whether the field at the front is an attribute that is read and written, if it doesn't stay as it is.
-fn is_read_next(text: &[u8], room: u32) -> bool {
+/// Whether the field at the front is an attribute of one value that no function of `anew` puts.
+fn is_odd_next(text: &[u8], room: u32) -> bool {
     let depth = 101u32.saturating_sub(room);
     let inner = room.saturating_sub(1);
-    match next_field(text, depth) {
-        Ok(Some((field, _rest))) => is_read(field, inner) && parts_in(field, inner).is_none(),
-        _ => false,
-    }
+    let Ok(Some((field, _rest))) = next_field(text, depth) else {
+        return false;
+    };
+    let Value::Bytes(attribute) = field.value else {
+        return false;
+    };
+    field.number == 9
+        && parts_of(attribute, inner).is_none()
+        && !has_values(attribute, 101u32.saturating_sub(inner))
 }
 
 /// Appends what is written of the span that a reader makes of the text. Tells whether it did.
@@ -139,31 +122,34 @@ fn put_number(copy: &mut Vec<u8>, field: Field<'_>, most: u32) -> Result<bool, A
     Ok(whole)
 }
 
-/// Appends a span's field anew that is an attribute, from its parts if it has them. Tells whether it did.
+/// Appends a span's field anew that is an attribute, in front of what stands behind it: from its text, or else what is
+/// written of what is read. Tells whether it did.
 fn put_attribute(
     alloc: Global,
     copy: &mut Vec<u8>,
     text: &[u8],
-    parts: Option<Parts<'_>>,
     spelled: &[u8],
+    behind: &[u8],
     room: u32,
 ) -> Result<bool, AllocError>
     requires some { 0 < room }
     requires spelled { IsField (101 - room) spelled.now (numbered 9 (Bytes text.now)) }
-    ensures { (d most : ℕ) → IfSome parts.entry (λ found. HasParts (room - 1) text.now found)
-        → IfOk result (λ whole. whole ≡ true
+    ensures { (d most : ℕ) → IfOk result (λ whole. whole ≡ true
         → PutFor span_step DefaultsAbove (room - 1) d most (numbered 9 (Bytes text.now))
         copy.old.items copy.new.items) }
 {
-    let Some(found) = parts else {
-        if has_values(text, 102u32.saturating_sub(room)) {
-            let whole = put_nested(alloc, copy, text, room - 1)?;
-            return Ok(whole);
-        }
-        let whole = put_read(alloc, copy, spelled, room)?;
+    if let Some(parts) = plain_parts(text, room - 1) {
+        let whole = put_parts(alloc, copy, text, parts, room - 1)?;
         return Ok(whole);
-    };
-    let whole = put_parts(alloc, copy, text, found, room - 1)?;
+    }
+    if put_alone(alloc, copy, text, room - 1)? {
+        return Ok(true);
+    }
+    // To read all attributes of a span alone takes longer than to read the span.
+    if is_odd_next(behind, room) {
+        return Ok(false);
+    }
+    let whole = put_read(alloc, copy, spelled, room)?;
     Ok(whole)
 }
 
@@ -181,10 +167,11 @@ fn put_placed<M: Placed>(
         copy.new.items) }
     ensures not { IfOk result (λ whole. whole ≡ false → copy.new.items ≡ copy.old.items) }
 {
+    // Only such a number has a tag of one byte, which is what `put_bytes_field` writes. No caller passes another.
     if number == 0 || number > 15 {
         return Ok(false);
     }
-    let mut anew = Vec::new(alloc);
+    let mut anew = Vec::with_capacity(alloc, text.len())?;
     if !put_by_places::<M>(alloc, &mut anew, text, room)? {
         return Ok(false);
     }
@@ -234,20 +221,19 @@ fn put_link(
     Ok(whole)
 }
 
-/// Appends a span's field anew, behind fields of numbers up to `most`. Tells whether it did.
+/// Appends a span's field anew, behind fields of numbers up to `most` and in front of what stands behind it. Tells
+/// whether it did.
 fn put_anew(
     alloc: Global,
     copy: &mut Vec<u8>,
     field: Field<'_>,
-    parts: Option<Parts<'_>>,
     spelled: &[u8],
+    behind: &[u8],
     most: u32,
     room: u32,
 ) -> Result<bool, AllocError>
     requires spelled { IsField (101 - room) spelled.now (entry field) }
-    ensures { (d : ℕ)
-        → IfSome parts.entry (λ found. HasParts (room - 1) (held (entry field.entry).value) found)
-        → IfOk result (λ whole. whole ≡ true
+    ensures { (d : ℕ) → IfOk result (λ whole. whole ≡ true
         → PutFor span_step DefaultsAbove (room - 1) d most (entry field.entry)
         copy.old.items copy.new.items) }
 {
@@ -265,7 +251,7 @@ fn put_anew(
         return Ok(false);
     }
     let whole = match field.number {
-        9 => put_attribute(alloc, copy, text, parts, spelled, room)?,
+        9 => put_attribute(alloc, copy, text, spelled, behind, room)?,
         11 => put_event(alloc, copy, text, spelled, room)?,
         13 => put_link(alloc, copy, text, spelled, room)?,
         15 if most < 15 => put_read(alloc, copy, spelled, room)?,
@@ -305,13 +291,8 @@ fn put_fields<'a>(
             left = rest;
             continue;
         }
-        // To read all attributes of a span alone takes longer than to read the span.
-        let parts = parts_in(field, room - 1);
-        if parts.is_none() && is_read(field, room - 1) && is_read_next(rest, room) {
-            return Ok(None);
-        }
         copy.extend_from_slice(&from[..from.len() - left.len()])?;
-        if !put_anew(alloc, copy, field, parts, spelled, most, room)? {
+        if !put_anew(alloc, copy, field, spelled, rest, most, room)? {
             return Ok(None);
         }
         most = most.max(field.number);

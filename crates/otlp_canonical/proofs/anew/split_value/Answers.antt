@@ -3,7 +3,7 @@ use Rattle.std.proofs.lemmas.Bool.Decides.{nat_tests}
 use Rattle.pb_wire.specs.Grammar.{entry}
 use Rattle.pb_wire.specs.Reading.{next_at}
 use Rattle.otlp_canonical.specs.Anew.{GivesWay}
-use Rattle.otlp_canonical.proofs.Members.{none_chosen, member_chosen, unknown_chosen, all_chosen}
+use Rattle.otlp_canonical.proofs.Members.{none_chosen, member_chosen, unknown_chosen, all_chosen, chosen_as}
 use Rattle.otlp_canonical.proofs.Parts.{nothing}
 use Rattle.otlp_canonical.proofs.anew.split_value.Goals as goal
 
@@ -29,7 +29,8 @@ fields-preserved c =
     let found : next_at c.args.depth left ≡ Ok (Some (field, rest)) = search rules in
     let is : c.knows.result ≡ true = search rules in
     let gives : GivesWay (option_map entry c.fields.member) = search rules in
-    member_chosen c.args.depth c.args.text.now left rest (option_map entry c.fields.member) c.fields.unknown field found gives (λ room v. c.knows.ensures room v ∙ is) c.fields.invariant
+    chosen_as c.args.depth c.args.text.now rest field (entry c.as_written.result) c.fields.unknown c.as_written.ensures
+    (member_chosen c.args.depth c.args.text.now left rest (option_map entry c.fields.member) c.fields.unknown field found gives (λ room v. c.knows.ensures room v ∙ is) c.fields.invariant)
 
 pub returns : goal.returns
 returns c =

@@ -8,7 +8,8 @@ returns-clause-put g c whole =
     let l = g.M.Placed.layout in
     let text = c.args.text.now in
     let anew = c.put_by_places.new.copy.items in
-    let first : c.new-anew.result.items ≡ [] = search rules in
-    let put : ReadAlike l.step l.none c.args.room text c.new-anew.result.items anew = search rules in
+    let none = c.in_ok-anew.anew.items in
+    let first : none ≡ [] = search rules in
+    let put : ReadAlike l.step l.none c.args.room text none anew = search rules in
     let a : ReadAlike l.step l.none c.args.room text [] anew = subst (λ (t : List ℕ). ReadAlike l.step l.none c.args.room text t anew) first put in
     framed l.step l.none c.args.room c.args.number text anew c.args.copy.now.items c.put_bytes_field.new.out.items (omega arith) (search rules) a
