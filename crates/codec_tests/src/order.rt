@@ -1,7 +1,7 @@
 //! Spans that are canonical but for the order of their fields.
 
 use crate::texts::{bytes_of, is_found, words};
-use otlp_canonical::in_order;
+use otlp_canonical::{canonical_copy, in_order};
 use std::alloc::Global;
 use std::test::Fail;
 
@@ -109,6 +109,25 @@ two_members_in_each_attribute \
 4a0a0a016112050a017610014a0a0a016212050a017610004a0a0a0163120518010a0176 \
 4a070a0161120210014a070a0162120210004a080a016312030a0176\n\
 a_bool_of_two 4a070a016b12021002 4a070a016b12021001\n\
+bools_of_two_side_by_side \
+4a070a0161120210024a100a0162120b10ffffffffffffffffff014a070a016312021000 \
+4a070a0161120210014a070a0162120210014a070a016312021000\n\
+a_bool_of_two_in_an_array 4a0f0a016b120a2a080a0210020a021001 4a0f0a016b120a2a080a0210010a021001\n\
+a_bool_of_two_in_a_list 4a100a016b120b32090a070a016112021002 4a100a016b120b32090a070a016112021001\n\
+an_array_and_a_string_in_an_array 4a130a016b120e2a0c0a0a2a050a030a01760a0177 4a0c0a016b12072a050a030a0177\n\
+an_array_and_a_string_in_a_list \
+4a180a016b121332110a0f0a0161120a2a050a030a01760a0177 4a110a016b120c320a0a080a016112030a0177\n\
+an_array_and_a_string_before_a_bool_of_two \
+4a0f0a0161120a2a050a030a01760a01774a070a016212021002 4a080a016112030a01774a070a016212021001\n\
+an_array_and_a_string_before_two_values \
+4a0f0a0161120a2a050a030a01760a01774a0d0a016212030a017612030a0177 4a080a016112030a01774a080a016212030a0177\n\
+an_array_and_a_string_apart \
+4a0f0a0161120a2a050a030a01760a01774a030a01624a0f0a0163120a2a050a030a01760a0177 \
+4a080a016112030a01774a030a01624a080a016312030a0177\n\
+an_array_that_is_no_text_and_a_string 4a0f0a016b120a2a050a030a01ff0a0177 none\n\
+# Of two attributes side by side in which such stand no more is made.\n\
+arrays_and_strings_side_by_side 4a0f0a0161120a2a050a030a01760a01774a0f0a0162120a2a050a030a01760a0177 none\n\
+# What isn't known in an attribute, in its value or in what that holds.\n\
 a_field_that_is_not_known_before_a_key 4a0a20010a016b12030a0176 4a0a0a016b12030a01762001\n\
 a_field_that_is_not_known_before_a_value 4a0a0a016b180112030a0176 4a0a0a016b12030a01761801\n\
 a_field_that_is_not_known_before_a_string 4a0a0a016b120540010a0176 4a0a0a016b12050a01764001\n\
@@ -145,7 +164,9 @@ a_group_that_is_not_known_before_a_string 4a0c0a016b12074b08014c0a0176 4a0c0a016
 a_string_of_another_wire_type_before_one 4a0a0a016b120508070a0176 4a0a0a016b12050a01760807\n\
 such_values_side_by_side \
 4a0a0a0161120540010a01764a0a0a0162120540010a0176 4a0a0a016112050a017640014a0a0a016212050a01764001\n\
-not_known_in_an_array_before_a_string 4a0e0a016b12092a0740010a030a0176 none\n\
+not_known_in_an_array_before_a_string 4a0e0a016b12092a0740010a030a0176 4a0e0a016b12092a070a030a01764001\n\
+not_known_in_a_list_and_an_attribute_behind_it \
+4a0e0a016b1209320740010a030a01614a080a016212030a0176 4a0e0a016b120932070a030a016140014a080a016212030a0176\n\
 # What several values of an attribute hold counts as if it stood in one.\n\
 two_such_attributes_apart \
 4a0c0a016112030a0176120210014a030a016b4a0c0a016212030a017612021001 4a070a0161120210014a030a016b4a070a016212021001\n\
@@ -167,6 +188,15 @@ two_values_of_which_the_first_is_no_text 4a0d0a016b12030a01ff12030a01764a0d0a016
 two_values_with_a_list_in_the_second \
 4a160a016b12030a0175120c320a0a080a016112030a01764a0d0a016212030a017612030a0177 \
 4a110a016b120c320a0a080a016112030a01764a080a016212030a0177\n\
+two_values_of_which_one_is_a_bool_of_two 4a090a016b120012021002 4a070a016b12021001\n\
+two_values_an_array_and_a_string 4a110a016b12072a050a030a017612030a0177 4a080a016b12030a0177\n\
+two_values_and_an_array_and_a_string_in_one 4a140a016b12030a0175120a2a050a030a01760a0177 4a080a016b12030a0177\n\
+two_values_an_array_that_is_no_text_and_a_string 4a110a016b12072a050a030a01ff12030a0177 none\n\
+two_values_in_a_list_of_two \
+4a210a016b121c321a0a0c0a01611202180512030a01760a0a0a0162120012030a0177 \
+4a1b0a016b121632140a080a016112030a01760a080a016212030a0177\n\
+two_values_in_one_of_two_values \
+4a150a016b1200120e320c0a0a0a0161120012030a0176 4a110a016b120c320a0a080a016112030a0176\n\
 # Fields of an event or a link may stand anywhere in it, and several times.\n\
 an_event_with_a_count_twice 5a072001200212016e 5a0512016e2002\n\
 an_event_with_a_name_twice_and_not_known_between \
@@ -179,6 +209,11 @@ an_event_with_attributes_put_anew \
 a_link_with_a_state_twice_and_its_ids_last \
 6a151a01731a017435010000001201320a013148012800 6a100a01311201321a017435010000004801\n\
 a_link_with_flags_and_none 6a0d35010000000a01313500000000 6a030a0131\n\
+an_event_with_a_count_twice_and_a_bool_of_two 5a0d200120011a070a016b12021002 5a0b1a070a016b120210012001\n\
+an_event_with_an_array_and_a_string \
+5a1620011a0f0a016b120a2a050a030a01760a017712016e 5a0f12016e1a080a016b12030a01772001\n\
+a_link_with_a_count_twice_and_a_bool_of_two 6a0d2801280122070a016b12021002 6a0b22070a016b120210012801\n\
+a_link_with_an_array_and_a_string 6a14220f0a016b120a2a050a030a01760a01770a0131 6a0d0a013122080a016b12030a0177\n\
 # Events, links and a status whose fields are in another order, or stand twice.\n\
 an_event_in_reverse 5a1820031a080a016b12030a0176120165090101010101010101 \
 5a180901010101010101011201651a080a016b12030a01762003\n\
@@ -243,11 +278,15 @@ cut 2a016e0a013130 none\n\
 flags_cut 2a016e0a01318501000000 none\n\
 of_no_wire_type 2a016e0a013107 none\n";
 
-/// Whether the line's text is so in order.
+/// Whether the line's text is so in order, and its canonical copy with it.
 fn is_so(alloc: Global, line: &str) -> Result<bool, Fail> {
     let (_name, text, wanted) = words(line).ok_or("a line without three words")?;
     let text = bytes_of(alloc, text)?;
     let found = in_order(alloc, text.as_slice(), 98)?;
+    if !is_found(alloc, found, wanted)? {
+        return Ok(false);
+    }
+    let found = canonical_copy(alloc, text.as_slice(), 98)?;
     is_found(alloc, found, wanted)
 }
 

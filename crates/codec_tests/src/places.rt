@@ -6,7 +6,7 @@ use std::alloc::Global;
 use std::test::Fail;
 
 /// A name, a resource's text, and its canonical text: hexadecimal digits, `-` for no bytes, and `none` where there is
-/// no resource.
+/// no resource, or where it is left to the reader.
 const RESOURCES: &str = "\
 nothing - -\n\
 a_count_of_more_bytes 108100 1001\n\
@@ -22,6 +22,8 @@ a_value_before_its_key 0a0812030a01760a016b 0a080a016b12030a0176\n\
 an_attribute_that_is_no_text 0a030a01ff1000 none\n\
 an_attribute_with_not_known_in_its_value 0a090a016b1204480118021000 0a090a016b120418024801\n\
 an_array_behind_a_long_length 0a0d0a016b1287002a050a030a0176 0a0c0a016b12072a050a030a0176\n\
+a_count_before_a_bool_of_two 10020a070a016b12021002 0a070a016b120210011002\n\
+an_array_and_a_string 0a0f0a016b120a2a050a030a01760a0177 none\n\
 cut 0a080a016b12030a017610 none\n\
 of_no_wire_type 17 none\n";
 
@@ -38,6 +40,7 @@ count_before_name 20020a016e 0a016e2002\n\
 defaults 0a0012002000 -\n\
 not_known_first 40010a016e0d01000000120131 0a016e12013140010d01000000\n\
 name_with_a_long_length 0a81006e 0a016e\n\
+count_before_two_values_of_which_one_is_a_bool_of_two 20011a090a016b1200120210020a016e 0a016e1a070a016b120210012001\n\
 name_cut 0a026e none\n";
 
 /// Whether the line's resource has that copy.
