@@ -111,6 +111,18 @@ def members_of_value(n):
     return tenant(), post(0, request([ids(1, 1) + piece(9, text)])) + DUE, "job a 1 "
 
 
+def attributes_to_be_read(n):
+    """One span of n attributes with an array before a string in each value, for which the whole span is read and written."""
+    text = piece(9, piece(1, b"k") + piece(2, piece(5, piece(1, SOME_VALUE)) + SOME_VALUE))
+    return tenant(), post(0, request([ids(1, 1) + text * n])) + DUE, "job a 1 "
+
+
+def attributes_to_be_read_apart(n):
+    """The same with another attribute behind each of them, so that each is read and written alone."""
+    text = piece(9, piece(1, b"k") + piece(2, piece(5, piece(1, SOME_VALUE)) + SOME_VALUE)) + attribute(9, "k", "v")
+    return tenant(), post(0, request([ids(1, 1) + text * n])) + DUE, "job a 1 "
+
+
 def attributes_of_two_members(n):
     """One span of n attributes whose values have two members each, so that each is put anew."""
     text = piece(9, piece(1, b"k") + piece(2, SOME_VALUE + number_field(3, 5)))
@@ -310,6 +322,8 @@ SHAPES = {
     "unknown fields": (unknown_fields, 25_000),
     "unknown fields of an attribute": (unknown_in_attribute, 25_000),
     "members of a value": (members_of_value, 50_000),
+    "attributes of an array before a string": (attributes_to_be_read, 12_500),
+    "the same, apart": (attributes_to_be_read_apart, 12_500),
     "attributes of two members": (attributes_of_two_members, 12_500),
     "attributes of two values": (attributes_of_two_values, 12_500),
     "attributes of a resource put anew": (attributes_of_a_resource, 12_500),

@@ -473,9 +473,9 @@ fn put_split(
     Ok(whole)
 }
 
-/// Appends the text anew of an attribute that has several values, by way of one that holds what all of them hold. Tells
-/// whether it did, as it doesn't inside another such value: each takes the bytes of its attribute, and is held until all
-/// inside is put.
+/// Appends the text anew of an attribute that has several values, by way of one that holds what all of them hold.
+/// Tells whether it did, as it doesn't inside another such value: each takes the bytes of its attribute, and is held
+/// until all inside is put.
 #[cycle(put)]
 fn put_several(
     alloc: Global,

@@ -5,7 +5,7 @@
 //! then need not read the message and write it again: the bytes that stand there are the text. [`is_span_text`] and the
 //! like find that out, and take no memory: where one answers `true`, the bytes are the canonical text of the very value
 //! that `otlp_read` gives them. [`canonical_copy`], [`resource_copy`] and [`scope_copy`] make that text of another,
-//! with no message between, or give none.
+//! or give none. No message is made for that, but of what can't be put anew inside a span.
 //!
 //! It stands on `pb_wire`, `otlp_trace` and `otlp_read`. The rules are those of the proto3 language guide and the
 //! Protocol Buffers encoding guide, over the messages of OTLP 1.x.

@@ -340,8 +340,8 @@ fn sorted_copy(alloc: Global, text: &[u8], room: u32) -> Result<Option<Vec<u8>>,
 /// span; with room for so many levels, as in `is_span_text`. Else none, and nothing is said of the text. A text that is
 /// canonical already may have none, or a copy.
 ///
-/// The text may have some bytes of room more than it takes: at most 38 for each default, 18 for each length, and those
-/// of a field that stands twice.
+/// The text may have some bytes of room more than it takes: at most 38 for each default, 18 for each length or number,
+/// and those of a field that stands twice, in the span or in a message inside it, but for one.
 pub fn in_order(alloc: Global, text: &[u8], room: u32) -> Result<Option<Vec<u8>>, AllocError>
     ensures { IfOk result (λ found. IfSome found (λ copy. CanonicalCopy room text.now
         copy.items)) }

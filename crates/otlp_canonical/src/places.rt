@@ -206,7 +206,8 @@ fn put_attributes<M: Placed>(
         let Value::Bytes(attribute) = field.value else {
             return Ok(false);
         };
-        // No message has its attributes at another number. The layout doesn't say so, and the field needs a tag of one byte.
+        // No message has its attributes at another number. The layout doesn't say so, and what `put_pair_field` appends
+        // has a tag of one byte.
         if field.number == 0 || field.number > 15 {
             return Ok(false);
         }
