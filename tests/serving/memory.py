@@ -26,9 +26,9 @@ EMPTY = piece(1, b"")
 URL = piece(3, b"u")
 # A count of 1 in two bytes, of a resource and of a scope, so that neither is canonical.
 LONG_COUNT, LONG_COUNT_OF_SCOPE = b"\x10\x81\x00", b"\x20\x81\x00"
-# Two values of an attribute; and a bool of 2, for which what it stands in is read as a message.
+# Two values of an attribute; and an array before a text in one, for which what it stands in is read as a message.
 TWO_VALUES = piece(1, b"k") + 2 * piece(2, piece(1, b"v"))
-BOOL_OF_TWO = piece(1, b"k") + piece(2, number_field(2, 2))
+AN_ARRAY_AND_A_TEXT = piece(1, b"k") + piece(2, piece(5, b"") + piece(1, b"v"))
 
 
 def alone(text):
@@ -112,9 +112,9 @@ SHAPES = {
     "attributes of two values": (piece(9, TWO_VALUES), in_span(), 5),
     "attributes beside two of two values": (piece(9, b""), in_span(before=2 * piece(9, TWO_VALUES)), 5),
     "lists in lists beside two of two values": (lists(9), in_span(before=2 * piece(9, TWO_VALUES)), 5),
-    "attributes of a resource that is read": (EMPTY, under(piece(1, BOOL_OF_TWO)), 76),
-    "lists in lists of a resource that is read": (lists(1), under(piece(1, BOOL_OF_TWO)), 32),
-    "attributes of a span that is read": (piece(9, b""), in_span(before=2 * piece(9, BOOL_OF_TWO)), 76),
+    "attributes of a resource that is read": (EMPTY, under(piece(1, AN_ARRAY_AND_A_TEXT)), 76),
+    "lists in lists of a resource that is read": (lists(1), under(piece(1, AN_ARRAY_AND_A_TEXT)), 32),
+    "attributes of a span that is read": (piece(9, b""), in_span(before=2 * piece(9, AN_ARRAY_AND_A_TEXT)), 76),
 }
 
 
