@@ -189,6 +189,8 @@ LISTENING = "warning: table global: listen "
 SENDING = "warning: tenant a: endpoint "
 NAMED_BY = "warning: table global: tenant_header is "
 OTHERWISE = ", which a request has for another purpose: hardly any can name a tenant by it\n"
+BY_GRPC = ("warning: tenant a: endpoint is {}, whose port is that of OTLP over gRPC: batches are posted by HTTP, for which it is "
+           "4318\n")
 FEW_SPANS = ("warning: tenant a: max_spans is {}, and send_batch_size is {}: a batch is cut by timeout_ms alone, and posts can "
              "get 429 until then\n")
 NO_RETRY = ("warning: tenant a: max_elapsed_time_ms is {}, and the delay before a retry is at least {} ms: no batch is sent "
@@ -219,6 +221,9 @@ DOUBTS = [
       for listen, address, same in (("", "127.0.0.1:4318", 1), ("", "localhost:4318", 0), ("", "127.0.0.1:431", 0),
                                     ('listen = "[::1]:4319"\n', "[::1]:4319", 1), ('listen = "[::1]:4319"\n', "[::1]:43190", 0),
                                     ('listen = "127.0.0.1:4319"\n', "127.0.0.1:4318", 0))),
+    *((BY_GRPC.format(address) if doubtful else "", ENOUGH + TENANT.replace("[[tenant.", f'endpoint = "{address}"\n[[tenant.'))
+      for address, doubtful in (("10.0.0.7:4317", 1), ("[::1]:4317", 1), ("10.0.0.7:14317", 0), ("10.0.0.7:43170", 0),
+                                ("10.0.0.7:4318", 0))),
     *((FEW_SPANS.format(*few) if few else "", ENOUGH + TENANT.replace("[[tenant.", f"{keys}\n[[tenant.")) for keys, few in (
         ("max_spans = 8191", (8191, 8192)), ("max_spans = 8192", ()), ("max_spans = 1\nbatch.send_batch_size = 2", (1, 2)),
         ("max_spans = 2\nbatch.send_batch_size = 2", ()), ("max_spans = 1\nbatch.timeout_ms = 1", (1, 8192)),

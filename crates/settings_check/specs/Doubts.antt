@@ -1,6 +1,6 @@
 -- What is doubtful in settings that are good: they load, and most likely won't do what was meant. This project's own
 -- rule.
-use Rattle.std.specs.Prelude.{codes, ℕ, List, [], ◌∷◌, ◌++◌, ◌-◌, ◌*◌, ◌/◌, Bool, ◌||◌, ◌==◌, length, sum_by, nat_le, int_le, Option, Some, None, Result, Ok, Err, if◌then◌else◌}
+use Rattle.std.specs.Prelude.{codes, ℕ, List, [], ◌∷◌, ◌++◌, ◌-◌, ◌*◌, ◌/◌, Bool, false, ◌||◌, ◌==◌, length, sum_by, nat_le, int_le, Option, Some, None, Result, Ok, Err, if◌then◌else◌}
 use Rattle.std.specs.Fmt.{decimal}
 use Rattle.std.specs.Str.{bytes_eq}
 use Rattle.tail_settings.specs.Batch.{BatchData}
@@ -9,7 +9,7 @@ use Rattle.tail_settings.specs.Policy.{LeafData, PolicyData, always_sample, late
 use Rattle.tail_settings.specs.RetryOnFailure.{RetryData}
 use Rattle.tail_settings.specs.Section.{SectionData}
 use Rattle.tail_settings.specs.Settings.{TenantData, SettingsData}
-use Rattle.settings_check.specs.Address.{address_fault}
+use Rattle.settings_check.specs.Address.{address_fault, behind_colon}
 use Rattle.settings_check.specs.Shown.{shown}
 
 -- the line of what is wrong with an address, behind the words of whose it is
@@ -79,6 +79,19 @@ own_line listen name endpoint =
     ++ codes ", as listen is: the service would post to itself\n"
     else []
 
+-- a port at which OTLP is spoken over gRPC (OTLP/gRPC Default Port)
+abbrev pub is_grpc_port : Option (List ℕ) → Bool
+is_grpc_port None = false
+is_grpc_port (Some port) = bytes_eq port (codes "4317")
+
+-- the line of a tenant whose back end is at such a port, where posts by HTTP/1.1 aren't answered
+abbrev pub grpc_line : List ℕ → List ℕ → List ℕ
+grpc_line name endpoint =
+    if is_grpc_port (behind_colon None endpoint)
+    then codes "warning: tenant " ++ name ++ codes ": endpoint is " ++ endpoint
+    ++ codes ", whose port is that of OTLP over gRPC: batches are posted by HTTP, for which it is 4318\n"
+    else []
+
 -- the shortest delay before a batch is sent again
 abbrev pub least_delay : RetryData → ℕ
 least_delay retry = retry.initial_interval - retry.initial_interval * retry.randomization_factor / 1000
@@ -121,7 +134,7 @@ lines_of_policies name (p ∷ ps) = policy_lines name p ++ lines_of_policies nam
 -- the lines of a tenant of this name
 unfoldable pub tenant_lines : List ℕ → List ℕ → SectionData → List ℕ
 tenant_lines listen name section =
-    endpoint_line name section.endpoint ++ own_line listen name section.endpoint
+    endpoint_line name section.endpoint ++ own_line listen name section.endpoint ++ grpc_line name section.endpoint
     ++ spans_line name section.max_spans section.batch ++ retry_line name section.retry_on_failure
     ++ lines_of_policies name section.tail_sampling.policies
 

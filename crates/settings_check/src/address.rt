@@ -33,7 +33,7 @@ fn has_scheme(mut text: &[u8]) -> bool
 }
 
 /// What stands behind a text's last colon, if it has one.
-fn behind_colon(mut text: &[u8]) -> Option<&[u8]>
+pub(crate) fn behind_colon(mut text: &[u8]) -> Option<&[u8]>
     ensures { option_copied result ≡ behind_colon None text.now }
 {
     let mut found = None;

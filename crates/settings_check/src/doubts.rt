@@ -1,15 +1,15 @@
 //! What is doubtful in settings that are good.
 
-ghost use Rattle.std.specs.Prelude.{◌≡◌, ◌++◌, map, IfOk, OnOk, string_bytes};
+ghost use Rattle.std.specs.Prelude.{◌≡◌, ◌++◌, map, IfOk, OnOk, option_copied, string_bytes};
 ghost use Rattle.std.specs.Str.{bytes_eq};
 ghost use Rattle.tail_settings.specs.Batch.{batch_view};
 ghost use Rattle.tail_settings.specs.Policy.{leaf_view, policy_view};
 ghost use Rattle.tail_settings.specs.RetryOnFailure.{retry_view};
 ghost use Rattle.tail_settings.specs.Section.{section_view};
 ghost use Rattle.tail_settings.specs.Settings.{settings_view};
-ghost use Rattle.settings_check.specs.Doubts.{address_line, endpoint_line, receivers_line, consumers_of, senders_line, has_purpose, header_line, own_line, spans_line, least_delay, retry_line, bounds_line, leaf_lines, policy_lines, lines_of_policies, tenant_lines, lines_of_tenants, doubts_of};
+ghost use Rattle.settings_check.specs.Doubts.{address_line, endpoint_line, receivers_line, consumers_of, senders_line, has_purpose, header_line, own_line, is_grpc_port, grpc_line, spans_line, least_delay, retry_line, bounds_line, leaf_lines, policy_lines, lines_of_policies, tenant_lines, lines_of_tenants, doubts_of};
 
-use crate::address::address_fault;
+use crate::address::{address_fault, behind_colon};
 use crate::shown::shown;
 use crate::unknown::joined;
 use std::alloc::{AllocError, Global};
@@ -141,6 +141,30 @@ fn own_line(alloc: Global, listen: &str, name: &str, endpoint: &str) -> Result<S
     Ok(line)
 }
 
+/// Whether what stands behind an address's last colon is the port of OTLP over gRPC.
+fn is_grpc_port(port: Option<&[u8]>) -> bool
+    ensures { result ≡ is_grpc_port (option_copied port.entry) }
+{
+    match port {
+        Some(port) => port == b"4317".as_slice(),
+        None => false,
+    }
+}
+
+/// The line of a tenant whose back end is at the port of OTLP over gRPC.
+fn grpc_line(alloc: Global, name: &str, endpoint: &str) -> Result<String, AllocError>
+    ensures { IfOk result (λ line. string_bytes line ≡ grpc_line name.now endpoint.now) }
+{
+    if !is_grpc_port(behind_colon(endpoint.as_bytes())) {
+        return Ok(String::new(alloc));
+    }
+    let line = format!(in alloc;
+        "warning: tenant {name}: endpoint is {endpoint}, whose port is that of OTLP over gRPC: batches are posted by \
+         HTTP, for which it is 4318\n"
+    )?;
+    Ok(line)
+}
+
 /// The shortest delay before a batch is sent again, in milliseconds.
 fn least_delay(retry: RetryOnFailure) -> u64
     ensures { result ≡ least_delay (retry_view retry) }
@@ -240,9 +264,11 @@ fn tenant_lines(
 {
     let endpoint = endpoint_line(alloc, name, section.endpoint.as_str())?;
     let own = own_line(alloc, listen, name, section.endpoint.as_str())?;
+    let grpc = grpc_line(alloc, name, section.endpoint.as_str())?;
     let spans = spans_line(alloc, name, section.max_spans, section.batch)?;
     let retry = retry_line(alloc, name, section.retry_on_failure)?;
-    let addresses = joined(alloc, endpoint.as_str(), own.as_str())?;
+    let hosts = joined(alloc, endpoint.as_str(), own.as_str())?;
+    let addresses = joined(alloc, hosts.as_str(), grpc.as_str())?;
     let head = joined(alloc, addresses.as_str(), spans.as_str())?;
     let numbers = joined(alloc, head.as_str(), retry.as_str())?;
     let policies = lines_of_policies(alloc, name, section.tail_sampling.policies.as_slice())?;
