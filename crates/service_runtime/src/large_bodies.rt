@@ -3,8 +3,8 @@
 use std::alloc::{AllocError, Global};
 use std::sync::{Condvar, Mutex, MutexGuard, Wait};
 
-/// A body of so many bytes waits for no other one. Where it isn't canonical it may take a hundred times its bytes, so
-/// that each receiver may take 5 MB for one.
+/// A body of so many bytes waits for no other one. What is read as a message may take 130 times its bytes, so that each
+/// receiver may take 6.4 MB for one.
 const SMALL: usize = 49_152;
 
 /// So many bytes of larger bodies are made ready at a time: one of the longest that are taken.
