@@ -117,7 +117,7 @@ where
     if options.verbose || options.admin.is_some() {
         reason.tell();
     }
-    let settings = settings_of_file(rt, path, options.queue_bytes, reason)?;
+    let settings = settings_of_file(rt, path, options, reason)?;
     let global = &settings.global;
     has_descriptors(rt, thread_counts(global, options), reason)?;
     let listener = listen_at(rt, global.listen.as_str(), reason)?;

@@ -1,12 +1,14 @@
 //! What `serve` needs before it serves: settings, descriptors, and an address to listen at.
 
-ghost use Rattle.std.specs.Prelude.{◌≡◌, IfOk, IfErr, Ok};
+ghost use Rattle.std.specs.Prelude.{◌≡◌, ℕ, List, IfOk, IfErr, Ok};
 ghost use Rattle.tail_settings.specs.Settings.{settings_of, settings_view};
 ghost use Rattle.trace_collector_program.specs.Fault.{IsOfSettings, IsOutside};
 ghost use Rattle.trace_collector_program.specs.Serve.{bounded_by, settings_served};
+ghost use Rattle.trace_collector_program.specs.Task.{options_view};
 
 use crate::descriptors::{ThreadCounts, too_low};
 use crate::reason::Reason;
+use crate::task::ServeOptions;
 use crate::{ProgramFault, read_file, settings_text};
 use settings_check::address_fault;
 use std::alloc::Global;
@@ -31,15 +33,19 @@ struct Shortage {
     needed: u64,
 }
 
-/// The settings in a file, in which each tenant's queue holds at most so many bytes, where that is asked for.
+/// The settings in a file, in which each tenant's queue holds at most so many bytes, where the options ask for that.
 pub fn settings_of_file(
     rt: &(impl Files + AllocGlobal),
     path: &str,
-    queue_bytes: Option<u64>,
+    options: &ServeOptions<'_>,
     reason: &mut Reason,
-) -> Result<Settings, ProgramFault> {
+) -> Result<Settings, ProgramFault>
+    ensures { IfOk result (λ settings. (bytes : List ℕ)
+        × (settings_served (options_view options.now).queue_bytes bytes ≡ Ok
+        (settings_view settings))) }
+{
     let bytes = read_file(rt, path, reason)?;
-    match settings_of_bytes(rt.alloc(), bytes, queue_bytes) {
+    match settings_of_bytes(rt.alloc(), bytes, options.queue_bytes) {
         Ok(settings) => Ok(settings),
         Err(fault) => {
             if matches!(fault, ProgramFault::Replay(ReplayFault::Settings(_))) {
@@ -50,7 +56,8 @@ pub fn settings_of_file(
     }
 }
 
-/// The same of a file's bytes.
+/// The settings that a file's bytes mean, in which each tenant's queue holds at most so many bytes, where that is asked
+/// for.
 fn settings_of_bytes(
     alloc: Global,
     bytes: Vec<u8>,
