@@ -526,9 +526,9 @@ def few_files(folder):
 def told_of_back_ends(folder):
     """With --verbose standard error is told of each answer of a back end but 2xx, whose it is and its status, or that
     none came; else of none."""
-    missing, none = (b"HTTP/1.1 %d None\r\nContent-Length: 0\r\n\r\n" % status for status in (404, 204))
+    choices, none = (b"HTTP/1.1 %d None\r\nContent-Length: 0\r\n\r\n" % status for status in (300, 204))
     for verbose in (True, False):
-        with BackEnd(lambda number: (BUSY, missing)[number > 1]) as bank, BackEnd(none, unread=2) as shop, \
+        with BackEnd(lambda number: (BUSY, choices)[number > 1]) as bank, BackEnd(none, unread=2) as shop, \
                 AdminService(folder, [tenant("bank", bank), tenant("shop", shop)], *["--verbose"][:verbose]) as service:
             check("a post", service.post("bank", body(1, 1)), (200, b""))
             wait_for(lambda: service.told("/tenants/bank")[1]["back_end_refused"] == 1, "it is refused")
@@ -536,7 +536,7 @@ def told_of_back_ends(folder):
             wait_for(lambda: service.told("/tenants/shop")[1]["exported"] == 1, "it is taken")
             status, _, told = service.drained()
             lines = [line for line in told.splitlines() if line.startswith(b"back end")]
-            due = [b"back end of bank: 503", b"back end of bank: 404"] + [b"back end of shop: no answer"] * 2
+            due = [b"back end of bank: 503", b"back end of bank: 300"] + [b"back end of shop: no answer"] * 2
             check("the end", (status, lines), (0, due if verbose else []))
 
 
