@@ -1,6 +1,7 @@
 """What the admin port does."""
 
 import json
+import select
 import socket
 import subprocess
 import threading
@@ -11,7 +12,7 @@ from pathlib import Path
 from serving import talk
 from serving.exposition import families
 from serving.memory import bytes_of
-from serving.talk import (ALL, BUSY, EXPECT, GO_ON, MOST, NAMES, BackEnd, Service, body, check, in_threads, line_of,
+from serving.talk import (ALL, BUSY, EXPECT, GO_ON, MOST, NAMES, SOON, BackEnd, Service, body, check, in_threads, line_of,
                           listening_ports, read_message, tenant, wait_for)
 
 TOKEN = "Zm9yIHRlc3RzIGFsb25l"
@@ -349,15 +350,15 @@ def asked_out_late(folder):
         told = []
         asking = threading.Thread(target=lambda: told.append(service.told("/tenants/slow", "DELETE")))
         asking.start()
-        time.sleep(0.5)
-        start = time.monotonic()
+        wait_for(lambda: service.post("slow", b"")[0] == 503, "it goes")
         check("health", service.told("/healthz")[0], 200)
         check("figures", len(service.told("/tenants")[1]["tenants"]), 2)
         going = (503, {"error": "the tenant slow is going: try again"})
         check("another change", service.told("/tenants/a", "DELETE"), going)
         check("one that comes", service.told("/tenants", "POST", tenant("new", back_end).encode()), going)
         check("the same change", service.told("/tenants/slow", "DELETE"), going)
-        check("at once", time.monotonic() - start < 1, True)
+        # Who asked first is told after five seconds that it isn't done yet.
+        check("at once", told, [])
         asking.join()
         check("it goes on", told, [(202, {"state": "it is being done"})])
         check("another change still", service.told("/tenants/a", "DELETE"), going)
@@ -430,18 +431,18 @@ def slow_lookers(folder):
             reads_not.sendall(b"GET /metrics HTTP/1.1\r\nHost: a\r\n\r\n" * 40)
             halves.sendall(b"GET /metrics HT")
             time.sleep(0.2)
-            start = time.monotonic()
             check("another", len(service.told("/tenants")[1]["tenants"]), 400)
             check("spans", service.post("tenant-7", body(1, 1)), (200, b""))
-            check("at once", time.monotonic() - start < 1, True)
+            # That has five seconds.
+            check("before half a request is let go", select.select([halves], [], [], 0)[0], [])
             begun = time.monotonic()
             check("half a request is let go", halves.recv(1 << 16), b"")
-            check("within its limit", time.monotonic() - begun < 6, True)
+            check("within its limit", time.monotonic() - begun < SOON, True)
             late = service.to_admin()
             late.sendall(b"GET /tenants")
             start = time.monotonic()
             check("the end", service.drained()[0], 0)
-            check("within its limits", time.monotonic() - start < 12, True)
+            check("within its limits", time.monotonic() - start < SOON, True)
             for peer in (reads_not, halves, idle, late):
                 peer.close()
 
@@ -455,21 +456,26 @@ def asked_to_the_end(folder):
         over, statuses = threading.Event(), []
 
         def scrape():
-            with service.to_admin() as peer, suppress(ConnectionError):
+            with suppress(ConnectionError), service.to_admin() as peer:
                 while not over.wait(0.3):
                     peer.sendall(b"GET /metrics HTTP/1.1\r\nHost: admin\r\n\r\n")
                     if not (reply := read_message(peer.recv)):
                         return
                     statuses.append(reply.split(b" ")[1])
 
-        scraper = threading.Thread(target=scrape)
+        def scrape_on():
+            # Who rests for a second is let go too, and on a busy machine it may.
+            while not over.wait(0.3):
+                scrape()
+
+        scraper = threading.Thread(target=scrape_on)
         scraper.start()
         check("a drain", service.told("/drain", "POST"), (200, {"state": "draining"}))
         before = len(statuses)
         wait_for(lambda: len(statuses) > before + 2, "it is told until all is sent")
         held.release()
         try:
-            status = service.run.wait(3)
+            status = service.run.wait(SOON)
         except subprocess.TimeoutExpired:
             status = None
         check("it ends", status, 0)

@@ -119,7 +119,7 @@ def reading_nothing(folder):
                 check("posts", (service.post("a", body(number, 2)), service.post("b", body(number, 2))),
                       ((200, b""), (200, b"")))
             wait_for(lambda: service.report("b") == line_of("b", accepted=3, exported=3), "b's jobs go on")
-            check("a's", service.report("a"), line_of("a", accepted=4, queued=3, active=1))
+            wait_for(lambda: service.report("a") == line_of("a", accepted=4, queued=3, active=1), "a's jobs wait")
             slow.reads.set()
             done = line_of("a", accepted=4, exported=4) + line_of("b", accepted=3, exported=3)
             check("the end", service.end(), (0, done, b""))

