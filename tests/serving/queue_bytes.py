@@ -4,7 +4,7 @@ from contextlib import ExitStack
 from pathlib import Path
 
 from replay.make_script import piece
-from serving.memory import bytes_of
+from serving.memory import MAPPED, bytes_of
 from serving.talk import BackEnd, Service, body, check, line_of, request, tenant, wait_for
 
 # A batch of one span without a name has 34 bytes: two of these may wait, and no third.
@@ -83,9 +83,9 @@ def at_the_end(folder):
 
 def held_by_one_that_hangs(folder, *options):
     """How many bytes more a service takes once so many large batches have formed behind a back end that hangs, and how many
-    of them wait. Another tenant is served meanwhile."""
+    of them wait. Another tenant is served meanwhile. No heap keeps what was given back."""
     with BackEnd(None) as hangs, BackEnd() as good, Service(
-            folder, [tenant("a", hangs), tenant("b", good)], *options, senders=4) as service:
+            folder, [tenant("a", hangs), tenant("b", good)], *options, senders=4, under=("env", *MAPPED)) as service:
         check("a post", service.post("b", body(1, 1)), (200, b""))
         before = bytes_of(service.run.pid, "VmRSS")
         for number in range(MANY):
@@ -100,9 +100,9 @@ def held_by_one_that_hangs(folder, *options):
 
 
 def one_that_hangs(folder):
-    """It takes the bytes that may wait, its batch on its way, and as many again, and without the option all."""
+    """It takes the bytes that may wait, its batch on its way, and room for two more, and without the option all."""
     more, queued = held_by_one_that_hangs(folder, "--queue-bytes", str(FOUR))
-    check(f"{more} bytes more at most, and {queued} wait", (more <= 10 * LARGE, queued), (True, 4))
+    check(f"{more} bytes more at most, and {queued} wait", (more <= FOUR + 3 * LARGE, queued), (True, 4))
     more, queued = held_by_one_that_hangs(folder)
     check(f"{more} bytes more without it, and {queued} wait", (more >= (MANY - 1) * LARGE, queued), (True, MANY - 1))
 
