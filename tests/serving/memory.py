@@ -26,9 +26,14 @@ EMPTY = piece(1, b"")
 URL = piece(3, b"u")
 # A count of 1 in two bytes, of a resource and of a scope, so that neither is canonical.
 LONG_COUNT, LONG_COUNT_OF_SCOPE = b"\x10\x81\x00", b"\x20\x81\x00"
-# Two values of an attribute; and an array before a text in one, for which what it stands in is read as a message.
+# Two values of an attribute; a bool that isn't written as one; and an array before a text in one value, for which what it
+# stands in is read as a message.
 TWO_VALUES = piece(1, b"k") + 2 * piece(2, piece(1, b"v"))
+BOOL_OF_TWO = piece(1, b"k") + piece(2, number_field(2, 2))
 AN_ARRAY_AND_A_TEXT = piece(1, b"k") + piece(2, piece(5, b"") + piece(1, b"v"))
+# An array in the first of two values, for which this attribute alone is read as a message.
+AN_ARRAY_FIRST = piece(1, b"k") + piece(2, piece(5, b"")) + piece(2, piece(1, b"v"))
+TWICE_COUNTED = 2 * number_field(4, 1)
 
 
 def alone(text):
@@ -54,9 +59,9 @@ def in_long_scope(text):
 
 
 def in_span(before=b"", number=None, behind=b""):
-    """What puts a text into a span: behind these fields, or with others behind it in one of this number."""
+    """What puts a text into a span, behind and before these fields, or with those behind it into one of this number."""
     def span(text):
-        return in_scope(piece(2, IDS + before + (piece(number, text + behind) if number else text)))
+        return in_scope(piece(2, IDS + before + (piece(number, text + behind) if number else text + behind)))
 
     return span
 
@@ -67,6 +72,14 @@ def lists(number, levels=19):
     for _ in range(levels):
         value = piece(6, piece(1, piece(2, value)))
     return piece(number, piece(2, value))
+
+
+def in_lists_of_two_values(text, levels=31):
+    """A span of one attribute, of a text in so many lists in one another, each in the first of two values."""
+    value = piece(1, text)
+    for _ in range(levels):
+        value = piece(6, piece(1, piece(1, b"k") + piece(2, value) + piece(2, b"")))
+    return in_span(number=9)(piece(2, value))
 
 
 def of_another_resource(number):
@@ -107,11 +120,17 @@ SHAPES = {
     "attributes of a resource that isn't canonical": (EMPTY, under(LONG_COUNT), 5),
     "lists in lists of a resource that isn't canonical": (lists(1), under(LONG_COUNT), 5),
     "attributes of a scope that isn't canonical": (piece(3, b""), in_long_scope, 5),
-    "attributes of an event whose count stands twice": (piece(3, b""), in_span(number=11, behind=2 * number_field(4, 1)), 5),
+    "attributes of an event whose count stands twice": (piece(3, b""), in_span(number=11, behind=TWICE_COUNTED), 5),
     "attributes of a link whose count stands twice": (piece(4, b""), in_span(number=13, behind=2 * number_field(5, 1)), 5),
     "attributes of two values": (piece(9, TWO_VALUES), in_span(), 5),
     "attributes beside two of two values": (piece(9, b""), in_span(before=2 * piece(9, TWO_VALUES)), 5),
     "lists in lists beside two of two values": (lists(9), in_span(before=2 * piece(9, TWO_VALUES)), 5),
+    "attributes of a resource with a bool of two": (EMPTY, under(piece(1, BOOL_OF_TWO)), 5),
+    "attributes of an event with a bool of two": (piece(3, b""), in_span(number=11, behind=piece(3, BOOL_OF_TWO)), 5),
+    "attributes before an event with a bool of two": (
+        piece(9, b""), in_span(behind=piece(11, TWICE_COUNTED + piece(3, BOOL_OF_TWO))), 5),
+    "attributes behind one that is read alone": (piece(9, b""), in_span(before=piece(9, AN_ARRAY_FIRST)), 5),
+    "one text in lists of two values": (b"v", in_lists_of_two_values, 7),
     "attributes of a resource that is read": (EMPTY, under(piece(1, AN_ARRAY_AND_A_TEXT)), 76),
     "lists in lists of a resource that is read": (lists(1), under(piece(1, AN_ARRAY_AND_A_TEXT)), 32),
     "attributes of a span that is read": (piece(9, b""), in_span(before=2 * piece(9, AN_ARRAY_AND_A_TEXT)), 76),
