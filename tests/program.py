@@ -48,7 +48,7 @@ def check(what, got, wanted):
 
 def ended(arguments, script=b"", **how):
     how = {"stdout": subprocess.PIPE, "stderr": subprocess.PIPE, **how}
-    done = subprocess.run([PROGRAM, *arguments], input=script, timeout=60, check=False, **how)
+    done = subprocess.run([PROGRAM, *arguments], input=script, timeout=600, check=False, **how)
     return done.returncode, done.stdout, done.stderr
 
 
@@ -562,10 +562,10 @@ def tables_of_settings():
 
 
 def answer(run, line, most=4096):
-    """What the program prints within ten seconds of a line, so many bytes at most."""
+    """What the program prints within a minute of a line, so many bytes at most."""
     run.stdin.write(line)
     run.stdin.flush()
-    ready, _, _ = select.select([run.stdout], [], [], 10)
+    ready, _, _ = select.select([run.stdout], [], [], 60)
     return os.read(run.stdout.fileno(), most) if ready else b""
 
 
@@ -578,7 +578,7 @@ def answers_at_once():
         run.stdin.write(b"turn 0 1000")
         run.stdin.close()
         check("the last line, without its end", run.stdout.read(), b"idle 0\n")
-        check("its status", run.wait(10), 0)
+        check("its status", run.wait(60), 0)
     pieces = ((b"turn 0 1\n", 1), (b"turn 0 2\ntur", 1), (b"n 0 ", 0), (b"3\nturn 0 4\nturn 0 5\n#", 3), (b" a comment", 0),
               (b"\n\n", 0), (b"turn 0 6", 0))
     with subprocess.Popen([PROGRAM, "replay", SETTINGS], stdin=subprocess.PIPE, stdout=subprocess.PIPE) as run:

@@ -203,7 +203,7 @@ def replayed(program, commands):
         settings = Path(folder, "settings.toml")
         settings.write_text(SETTINGS)
         script = "".join(f"{command}\n" for command in commands)
-        done = subprocess.run([program, "replay", settings], input=script, capture_output=True, text=True, timeout=60,
+        done = subprocess.run([program, "replay", settings], input=script, capture_output=True, text=True, timeout=600,
                               check=False)
     fault = [f"status {done.returncode} {done.stderr}"] if done.returncode or done.stderr else []
     return done.stdout.splitlines() + fault

@@ -32,7 +32,7 @@ def replayed(program, folder, story):
     file = Path(folder, "settings.toml")
     file.write_text(story.settings)
     script = "".join(f"{command}\n" for command in story.script)
-    done = subprocess.run([program, "replay", file], input=script, capture_output=True, text=True, timeout=60,
+    done = subprocess.run([program, "replay", file], input=script, capture_output=True, text=True, timeout=600,
                           check=False)
     return done.stdout.splitlines() + ([f"status {done.returncode} {done.stderr}"] if done.returncode or done.stderr else [])
 

@@ -34,7 +34,7 @@ def main():
             document = documents.document()
             file.write_text(written(document))
             fault = first_fault(document)
-            done = subprocess.run([program, "replay", file], input="", capture_output=True, text=True, timeout=60,
+            done = subprocess.run([program, "replay", file], input="", capture_output=True, text=True, timeout=600,
                                   check=False)
             wanted = (1, "", fault + "\n") if fault else (0, "", "")
             if (done.returncode, done.stdout, done.stderr) != wanted:

@@ -41,7 +41,7 @@ def check(what, settings, script, text, fault=""):
         file.write(settings)
         file.flush()
         script = script if isinstance(script, bytes) else script.encode()
-        run = subprocess.run([PROGRAM, "replay", file.name], input=script, capture_output=True, timeout=60, check=False)
+        run = subprocess.run([PROGRAM, "replay", file.name], input=script, capture_output=True, timeout=600, check=False)
     same(what, (run.returncode, run.stdout.decode(), run.stderr.decode()), (1 if fault else 0, text, fault and fault + "\n"))
 
 

@@ -22,8 +22,8 @@ from serving.runs import end, run
 
 HERE = Path(__file__).resolve().parent.parent
 SHORT = 3
-# Waits ten seconds and hardly does anything, so it goes on beside the others.
-BESIDE = "without_room"
+# They wait for seconds and hardly do anything, so they go on beside the others.
+BESIDE = [test.__name__ for test in (loopback.without_room, *limits.WAITING, *bodies.WAITING)]
 
 
 def agree(folder):
@@ -59,8 +59,8 @@ def main():
         for name in words:
             print(f"{name}: {run(name, (TESTS | BY_HAND)[name]):.1f} s", flush=True)
     else:
-        with subprocess.Popen([sys.executable, __file__, talk.program, BESIDE], stdout=subprocess.PIPE) as beside:
-            for name in (name for name in TESTS if name != BESIDE):
+        with subprocess.Popen([sys.executable, __file__, talk.program, *BESIDE], stdout=subprocess.PIPE) as beside:
+            for name in (name for name in TESTS if name not in BESIDE):
                 print(f"{name}: {run(name, TESTS[name]):.1f} s", flush=True)
             said = beside.communicate()[0].decode()
             print(said, end="")

@@ -98,7 +98,7 @@ def told(program, sections, lines, of):
     with tempfile.NamedTemporaryFile("w", suffix=".toml") as file:
         file.write(settings)
         file.flush()
-        run = subprocess.run([program, "replay", file.name], input=script, capture_output=True, text=True, timeout=60, check=False)
+        run = subprocess.run([program, "replay", file.name], input=script, capture_output=True, text=True, timeout=600, check=False)
     if run.returncode or run.stderr:
         raise SystemExit(f"status {run.returncode}, {run.stderr!r} of\n{settings}{script}")
     return run.stdout.splitlines()

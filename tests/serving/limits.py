@@ -5,21 +5,25 @@ import resource
 import socket
 import subprocess
 import sys
+import threading
 import time
 from contextlib import ExitStack, suppress
 from pathlib import Path
 
 from replay.make_script import piece
 from serving.loopback import HEAD, REPLY
-from serving.talk import (ERRORS, EXPECT, GO_ON, MOST, TAKEN, BackEnd, Service, body, check, head_of, in_threads, line_of, read_message,
+from serving.talk import (ERRORS, EXPECT, GO_ON, MOST, SOON, TAKEN, BackEnd, Service, body, check, head_of, in_threads, line_of, read_message,
                           request, tenant, wait_for)
 
 WHOLE = head_of("a", 34) + body(18, 1)
 # Behind this head the service says that the body is to come.
 ASKING = head_of("a", 34, EXPECT)
-# So many milliseconds of rest are too many. Beside others' work a thread may come much later to what is due.
-LIMIT = 400
+# So many milliseconds of rest are too many for a client. A client that isn't to rest has all of them for what takes a moment:
+# on a busy machine that may be seconds.
+LIMIT = 5_000
 LIMITED = ("--client-timeout", str(LIMIT))
+# So many are too many for a back end, which is to do what takes longer, and is tried again where it doesn't.
+REST = 2_000
 # So many seconds are between two pieces of what never ends: well within the limit.
 DROP = 0.03
 WHOLE_IN_TIME = ("--request-timeout", str(LIMIT))
@@ -42,10 +46,15 @@ def heard(peer):
         text += more
 
 
+def is_late(seconds, limit):
+    """Whether so much time is about the limit, or more."""
+    return seconds > 0.9 * limit / 1000
+
+
 def closes(what, peer, wanted=b""):
     """The service closes it, not before the limit, and has told it this."""
     text, after = heard(peer)
-    check(what, (text, after > 0.9 * LIMIT / 1000), (wanted, True))
+    check(what, (text, is_late(after, LIMIT)), (wanted, True))
 
 
 def resting_clients(folder):
@@ -75,22 +84,22 @@ def resting_clients(folder):
 def slow_clients(folder):
     """Who sends something before the limit each time isn't let go, however long it takes in all, and who rests for less
     between requests neither."""
-    with BackEnd() as back_end, Service(folder, [tenant("a", back_end, policies=ERRORS)], "--client-timeout", "3000") as service:
+    with BackEnd() as back_end, Service(folder, [tenant("a", back_end, policies=ERRORS)], *LIMITED) as service:
         with service.connect() as peer:
             for text in (WHOLE, WHOLE):
                 step = len(text) // 20 + 1
                 for at in range(0, len(text), step):
                     peer.sendall(text[at:at + step])
-                    time.sleep(0.1)
+                    time.sleep(LIMIT / 1000 / 15)
                 check("a reply", read_message(peer.recv), REPLY)
         check("the end", service.end(), (0, line_of("a", accepted=2, not_sampled=2), b""))
 
 
 def dripped(peer, text):
-    """After how many seconds the service closes who sends a byte of a text each 20 milliseconds, and what it is told; None
-    where it doesn't."""
+    """After how many seconds the service closes who sends a byte of a text twenty times within the limit, and what it is
+    told; None where it doesn't."""
     start = time.monotonic()
-    peer.settimeout(0.02)
+    peer.settimeout(LIMIT / 1000 / 20)
     for at in range(len(text)):
         try:
             peer.sendall(text[at:at + 1])
@@ -109,7 +118,7 @@ def slow_requests(folder):
     service at its end."""
     rest, at = 1.5 * LIMIT / 1000, WHOLE.index(b"\r\n\r\n") + 4
     with BackEnd() as back_end, Service(folder, [tenant("a", back_end, policies=ERRORS)], *WHOLE_IN_TIME) as service:
-        def drips(what, begun, before):
+        def drips(what, begun, more, before):
             with service.connect() as peer:
                 time.sleep(rest)
                 if before:
@@ -117,17 +126,18 @@ def slow_requests(folder):
                     check("a reply", read_message(peer.recv), REPLY)
                     time.sleep(rest)
                 peer.sendall(begun)
-                told, after = dripped(peer, WHOLE[len(begun):]) or (None, 0)
-                check(f"slow {what}", (told, after > 0.9 * LIMIT / 1000), (b"", True))
+                told, after = dripped(peer, more) or (None, 0)
+                check(f"slow {what}", (told, is_late(after, LIMIT)), (b"", True))
 
         in_threads(*(lambda how=how: drips(*how) for before in (b"", WHOLE)
-                     for how in (("in a head", WHOLE[:1], before), ("in a body", WHOLE[:at], before))))
+                     for how in (("in a head", WHOLE[:1], WHOLE[1:], before),
+                                 ("in a body", head_of("a", 1_000), bytes(1_000), before))))
         with service.connect() as peer, service.connect() as slow:
             for _ in range(3):
                 # Each has its own time.
                 for part in (WHOLE[:at], WHOLE[at:]):
                     peer.sendall(part)
-                    time.sleep(0.4 * LIMIT / 1000)
+                    time.sleep(0.2 * LIMIT / 1000)
                 check("a reply", read_message(peer.recv), REPLY)
             peer.close()
             slow.sendall(head_of("a", 1_000_000))
@@ -141,7 +151,7 @@ def slow_behind_leave(folder):
     """The time begins anew with the leave to send a body: who sends none of it, or not all, is let go after the limit, counts
     for nothing, and doesn't keep the service at its end. A body that comes in time behind it is taken, also where its head
     took most of a limit, and who rests behind the reply isn't let go."""
-    rest, part = 1.5 * LIMIT / 1000, 0.6 * LIMIT / 1000
+    rest, part = 1.5 * LIMIT / 1000, 0.55 * LIMIT / 1000
     with BackEnd() as back_end, Service(folder, [tenant("a", back_end, policies=ERRORS)], *WHOLE_IN_TIME) as service:
         def asked(peer):
             peer.sendall(ASKING[:9])
@@ -177,10 +187,10 @@ def both_limits(folder):
             peer.sendall(WHOLE + WHOLE[:9])
             check("a reply", read_message(peer.recv), REPLY)
             text, after = heard(peer)
-            check("resting", (text, 0.9 < 1000 * after / LIMIT < 2.5), (b"", True))
+            check("resting", (text, is_late(after, LIMIT), is_late(after, 3 * LIMIT)), (b"", True, False))
         with service.connect() as peer:
             told, after = dripped(peer, head_of("a", 1_000_000)) or (None, 0)
-            check("dripping", (told, after > 2.7 * LIMIT / 1000), (b"", True))
+            check("dripping", (told, is_late(after, 3 * LIMIT)), (b"", True))
         with service.connect() as peer:
             for _ in range(2):
                 peer.sendall(WHOLE)
@@ -205,7 +215,7 @@ def unread_replies(folder):
 
             def comes_next():
                 check("the next client", service.post("a", body(1, 1)), (200, b""))
-                check("not before the limit", time.monotonic() - start > 0.9 * LIMIT / 1000, True)
+                check("not before the limit", is_late(time.monotonic() - start, LIMIT), True)
                 with suppress(OSError):
                     peer.shutdown(socket.SHUT_RDWR)
 
@@ -233,7 +243,7 @@ def back_ends_that_rest(folder):
         unread = stack.enter_context(BackEnd())
         unread.reads.clear()
         sections = [tenant("a", silent), tenant("b", cut), tenant("c", unread), tenant("d", good)]
-        service = stack.enter_context(Service(folder, sections, "--senders", "1", "--back-end-timeout", str(LIMIT)))
+        service = stack.enter_context(Service(folder, sections, "--senders", "1", "--back-end-timeout", str(REST)))
         for name, text in (("a", body(1, 1)), ("b", body(2, 1)), ("c", large)):
             check("a post", service.post(name, text), (200, b""))
         wait_for(lambda: len(silent.posts) >= 2 and len(cut.posts) >= 2 and unread.came >= 2, "all are tried again")
@@ -245,7 +255,8 @@ def back_ends_that_rest(folder):
         for name in "abc":
             check("not given up", service.report(name), line_of(name, accepted=1, active=1))
         times = [when for _, _, when in silent.posts]
-        check("not before the limit", all(later - sooner > 0.9 * LIMIT / 1000 for sooner, later in zip(times, times[1:])), True)
+        # A busy machine takes a post late.
+        check("not long before the limit", max(later - sooner for sooner, later in zip(times, times[1:])) > 0.6 * REST / 1000, True)
         silent.release()
         cut.release()
         unread.reads.set()
@@ -296,12 +307,12 @@ def answers_without_end(folder):
              "in chunks": Endless(head + b"Transfer-Encoding: chunked\r\n\r\n", b"1\r\na\r\n"),
              "as fast as it can": Endless(head + b"\r\n", b"a" * 65_536),
              "drop by drop": Endless(b"", b"", size=4096)}
-    retries = "max_elapsed_time_ms = 2000\n"
+    retries = f"max_elapsed_time_ms = {5 * REST}\n"
     with ExitStack() as stack:
         good = stack.enter_context(BackEnd())
         sections = [tenant(f"t{number}", stack.enter_context(back_end)) + retries
                     for number, back_end in enumerate(kinds.values())]
-        service = stack.enter_context(Service(folder, [*sections, tenant("u", good)], "--back-end-timeout", str(LIMIT),
+        service = stack.enter_context(Service(folder, [*sections, tenant("u", good)], "--back-end-timeout", str(REST),
                                               senders=len(kinds)))
         for number, kind in enumerate(kinds):
             text = large if kind == "drop by drop" else body(1, 1)
@@ -316,8 +327,8 @@ def answers_without_end(folder):
             times = [when for _, _, when in back_end.posts]
             took = [later - sooner for sooner, later in zip(times, times[1:])]
             # A busy machine takes a post late.
-            check(f"{kind}: not long before the limit", max(took) > 0.6 * LIMIT / 1000, True)
-            check(f"{kind}: not a second after it", min(took) < LIMIT / 1000 + 1, True)
+            check(f"{kind}: not long before the limit", max(took) > 0.6 * REST / 1000, True)
+            check(f"{kind}: not long after it", min(took) < REST / 1000 + SOON, True)
             if kind != "drop by drop":
                 check(f"{kind}: the same again", set(back_end.bodies()), {body(1, 1)})
 
@@ -325,7 +336,6 @@ def answers_without_end(folder):
 def no_connection(folder):
     """A back end whose queue of connections is full isn't waited for beyond the limit, and is tried again."""
     with BackEnd() as good, socket.create_server(("127.0.0.1", 0), backlog=0) as full, ExitStack() as stack:
-        full.settimeout(MOST)
         port = full.getsockname()[1]
         # The first one fills the queue.
         for _ in range(3):
@@ -333,23 +343,29 @@ def no_connection(folder):
             peer.setblocking(False)
             peer.connect_ex(("127.0.0.1", port))
         away = tenant("a", good).replace(f"127.0.0.1:{good.port}", f"127.0.0.1:{port}")
-        with Service(folder, [away, tenant("b", good)], "--back-end-timeout", "200", senders=1) as service:
+        with Service(folder, [away, tenant("b", good)], "--back-end-timeout", str(REST), senders=1) as service:
             for name in "ab":
                 check("a post", service.post(name, body(1, 1)), (200, b""))
             wait_for(lambda: service.report("b") == line_of("b", accepted=1, exported=1), "another's job goes on")
             # The other's job may have been handed out first.
             wait_for(lambda: service.report("a") == line_of("a", accepted=1, active=1), "not given up")
             stack.close()
-            text = b""
-            while not text:
-                taken, _ = full.accept()
-                with taken:
-                    text = read_message(taken.recv)
-                    if text:
-                        taken.sendall(TAKEN)
-            check("the job", text.partition(b"\r\n\r\n")[2], body(1, 1))
+            texts = []
+
+            def take():
+                with suppress(OSError):
+                    while True:
+                        taken, _ = full.accept()
+                        with taken, suppress(OSError):
+                            texts.append(read_message(taken.recv))
+                            taken.sendall(TAKEN)
+
+            threading.Thread(target=take, daemon=True).start()
             done = "".join(line_of(name, accepted=1, exported=1) for name in "ab")
             check("the end", service.end(), (0, done, b""))
+            full.shutdown(socket.SHUT_RDWR)
+            # Of a connection that was given up nothing comes.
+            check("the job", {text.partition(b"\r\n\r\n")[2] for text in texts if text}, {body(1, 1)})
 
 
 def many_connections(folder):
@@ -448,6 +464,7 @@ def no_descriptor_at_the_end(folder):
         check("the end", service.end(), (0, "", b""))
 
 
-TESTS = (resting_clients, slow_clients, slow_requests, slow_behind_leave, both_limits, unread_replies, the_end_of_resting,
-         back_ends_that_rest, answers_without_end, no_connection, many_connections, many_threads, few_descriptors,
-         no_descriptor_at_the_end)
+# Those hardly do anything but wait.
+WAITING = (resting_clients, slow_clients, slow_requests, slow_behind_leave, both_limits, the_end_of_resting)
+TESTS = (*WAITING, unread_replies, back_ends_that_rest, answers_without_end, no_connection, many_connections, many_threads,
+         few_descriptors, no_descriptor_at_the_end)
