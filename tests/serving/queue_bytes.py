@@ -83,9 +83,10 @@ def at_the_end(folder):
 
 def held_by_one_that_hangs(folder, *options):
     """How many bytes more a service takes once so many large batches have formed behind a back end that hangs, and how many
-    of them wait. Another tenant is served meanwhile. No heap keeps what was given back."""
+    of them wait. Another tenant is served meanwhile. No heap keeps what was given back, nor do many receivers what bodies had."""
     with BackEnd(None) as hangs, BackEnd() as good, Service(
-            folder, [tenant("a", hangs), tenant("b", good)], *options, senders=4, under=("env", *MAPPED)) as service:
+            folder, [tenant("a", hangs), tenant("b", good)], *options, receivers=1, senders=4,
+            under=("env", *MAPPED)) as service:
         check("a post", service.post("b", body(1, 1)), (200, b""))
         before = bytes_of(service.run.pid, "VmRSS")
         for number in range(MANY):
