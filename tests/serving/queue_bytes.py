@@ -11,7 +11,7 @@ from serving.talk import BackEnd, Service, body, check, line_of, request, tenant
 TWO = ("--queue-bytes", "68")
 FOREVER = 86_400_000
 # So many batches of so many bytes, of which four may wait.
-MANY = 30
+MANY = 20
 LARGE = 10_000_000
 FOUR = 4 * LARGE + 100_000
 
