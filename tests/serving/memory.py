@@ -7,7 +7,7 @@ from pathlib import Path
 from time import sleep
 
 from replay.make_script import number_field, piece
-from serving.talk import ERRORS, BackEnd, Service, body, check, in_threads, line_of, read_message, tenant, wait_for
+from serving.talk import ERRORS, MOST, BackEnd, Service, body, check, in_threads, line_of, read_message, tenant, wait_for
 
 # Each of these spans has a resource of its own, so that a body takes many times its bytes while it is made ready, and more
 # than what the service keeps back.
@@ -238,7 +238,14 @@ def many_large_bodies(folder):
                                         under=("env", "MALLOC_ARENA_MAX=1")) as service:
         service.post("a", body(1, 1))
         before = bytes_of(service.run.pid, "VmHWM")
-        in_threads(*(lambda name=name, text=text: told.append(service.post(name, text)[0])
+
+        def client(name, text):
+            with service.connect() as peer:
+                # The last one waits for all others.
+                peer.settimeout(MANY * MOST)
+                told.append(service.post(name, text, peer)[0])
+
+        in_threads(*(lambda name=name, text=text: client(name, text)
                      for name, text in zip(cycle("abc"), (*[text] * MANY, body(2, 2)))))
         more = bytes_of(service.run.pid, "VmHWM") - before
     check("how many are answered", len([status for status in told if status in (200, 429)]), MANY + 1)
