@@ -73,12 +73,17 @@ def larger_alone(folder):
 
 
 def at_the_end(folder):
-    """A drain makes no more room: of four batches that form at once two wait."""
-    with BackEnd() as back_end, Service(folder, [tenant("a", back_end, wait=FOREVER)], *TWO) as service:
+    """What a drain makes isn't bounded: of four batches that form at once all are sent, and those of a tenant that leaves."""
+    with BackEnd() as first, BackEnd() as second, Service(
+            folder, [tenant("a", first, wait=FOREVER), tenant("b", second, wait=FOREVER)], *TWO) as service:
         for number in range(1, 5):
             check("a post", service.post("a", body(number, number)), (200, b""))
-        check("the end", service.end(), (0, line_of("a", accepted=4, exported=2, queue_full=2), b""))
-        check("what was sent", back_end.bodies(), [body(number, number) for number in (1, 2)])
+            check("a post", service.post("b", body(number, number)), (200, b""))
+        service.say("retire a\n")
+        check("it leaves", service.hear(), line_of("a", accepted=4, exported=4))
+        check("the end", service.end(), (0, line_of("b", accepted=4, exported=4), b""))
+        for back_end in (first, second):
+            check("what was sent", back_end.bodies(), [body(number, number) for number in range(1, 5)])
 
 
 def held_by_one_that_hangs(folder, *options):

@@ -59,22 +59,27 @@ report a 3000 = report a accepted=7 undecided=0 pending=0 queued=0 active=2 \
 exported=1 not_sampled=0 too_early=0 queue_full=4 \
 retry_exhausted=0 back_end_refused=0 back_end_rejected=0 invalid=0 over_budget=0";
 
-/// A drain makes no more room: what it decides waits by the keys of its spans, and counts with the bytes that it will
-/// have.
+/// What a drain decides isn't bounded in bytes, and what is due at its moment is, since that is decided first.
 const DRAINED: &str = "post a 0 11.21 = reply a 200 -
 post a 0 12.22 = reply a 200 -
 post a 0 13.23 = reply a 200 -
-drain a 0 = done a
-report a 0 = report a accepted=3 undecided=0 pending=0 queued=2 active=0 \
+post a 500 14.25 = reply a 200 -
+post a 500 15.27 = reply a 200 -
+drain a 1000 = done a
+report a 1000 = report a accepted=5 undecided=0 pending=0 queued=4 active=0 \
 exported=0 not_sampled=0 too_early=0 queue_full=1 \
 retry_exhausted=0 back_end_refused=0 back_end_rejected=0 invalid=0 over_budget=0
-turn 0 0 = job a 1 11.21
-turn 0 0 = idle 0
-answer a 0 1 0 200 - - = done a
-turn 0 0 = job a 2 12.22
-answer a 0 2 0 200 - - = done a
-report a 0 = report a accepted=3 undecided=0 pending=0 queued=0 active=0 \
-exported=2 not_sampled=0 too_early=0 queue_full=1 \
+turn 0 1000 = job a 1 11.21
+turn 0 1000 = idle 0
+answer a 1000 1 0 200 - - = done a
+turn 0 1000 = job a 2 12.22
+answer a 1000 2 0 200 - - = done a
+turn 0 1000 = job a 3 14.25
+answer a 1000 3 0 200 - - = done a
+turn 0 1000 = job a 4 15.27
+answer a 1000 4 0 200 - - = done a
+report a 1000 = report a accepted=5 undecided=0 pending=0 queued=0 active=0 \
+exported=4 not_sampled=0 too_early=0 queue_full=1 \
 retry_exhausted=0 back_end_refused=0 back_end_rejected=0 invalid=0 over_budget=0";
 
 /// What the steps of a story are told by a shard of two tenants whose queues hold so many bytes each.

@@ -94,10 +94,6 @@ span_of_array =
     let one = otlp.a_value (any_value (otlp.int (pos 1)) []) otlp.no_values in
     record no_span { attributes = with_value (codes "a") (otlp.array (otlp.array_value one [])) ∷ [] }
 
--- the trace id 01 alone
-abbrev pub one_byte_id : SpanFacts
-one_byte_id = record nothing { trace_id = 1 ∷ [] }
-
 pub record Told : Type 0 where
   -- of the messages, and of their texts
   pub of_messages : facts small_span (Some small_resource) ≡ small_facts

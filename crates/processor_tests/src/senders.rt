@@ -131,6 +131,7 @@ fn goes(alloc: Global, queue: &mut SendQueue, line: &'static str) -> Result<bool
         "ready" => Ok(is_ready(queue.ready(), &wanted)),
         "room" => Ok(has_room(queue, &wanted)),
         "bytes" => Ok(has_bytes_left(queue, &wanted)),
+        "lift" => Ok(is(&wanted, "was", queue.lift_bound(), 0)),
         _ => settles(alloc, queue, asked, &wanted),
     }
 }
@@ -242,6 +243,43 @@ answer 4 41000 0 200 - - = taken 1 0";
 fn batches_that_wait_have_so_many_bytes_at_most(rt: HostRuntime) -> Result<(), Fail> {
     let queue = SendQueue::new(rt.alloc(), &SEVEN_BYTES, &ENDLESS)?;
     tell(&rt, rt.alloc(), queue, BY_BYTES)?;
+    Ok(())
+}
+
+/// Once bytes are no bound, as many batches wait as may.
+const NOT_BY_BYTES: &str = "\
+offer 1000 abcdefg = taken
+offer 1000 h = full 1
+lift 1000 = was 7
+bytes 1000 = left 4398046511097
+offer 1000 h = taken
+bytes 1000 = left 4398046511096
+offer 1000 ij = taken
+offer 1000 k = full 1
+lift 1000 = was 4398046511104
+job 1000 = abcdefg 1
+answer 1 1000 0 200 - - = taken 7 0
+job 1000 = h 2
+answer 2 1000 0 200 - - = taken 1 0
+job 1000 = ij 3
+answer 3 1000 0 200 - - = taken 2 0
+bytes 1000 = left 4398046511104";
+
+#[test]
+fn a_bound_of_bytes_is_lifted(rt: HostRuntime) -> Result<(), Fail> {
+    let queue = SendQueue::new(rt.alloc(), &SEVEN_BYTES, &ENDLESS)?;
+    tell(&rt, rt.alloc(), queue, NOT_BY_BYTES)?;
+    Ok(())
+}
+
+#[test]
+fn a_bound_of_bytes_is_put_back(rt: HostRuntime) -> Result<(), Fail> {
+    let mut queue = SendQueue::new(rt.alloc(), &SEVEN_BYTES, &ENDLESS)?;
+    queue.bound_bytes(2);
+    assert!(rt; queue.bytes_left() == 2);
+    assert!(rt; queue.offer(batch(1000, "abc")).is_err());
+    queue.lift_bound();
+    assert!(rt; queue.offer(batch(1000, "abc")).is_ok());
     Ok(())
 }
 

@@ -3,8 +3,8 @@
 -- time, and that a full queue takes no more, are of the Collector's exporterhelper (its README, "Sending Queue"); what
 -- an answer means and when a batch is sent again are of `send_retry`; tickets and which job is next are this project's
 -- own rule.
-use Rattle.std.specs.Prelude.{ℕ, ◌+◌, ◌-◌, ◌^◌, min, Bool, nat_lt, nat_le, ◌==◌, ◌&&◌, ◌||◌, if◌then◌else◌, List, [], ◌∷◌, ◌++◌, length, take, drop, Option, Some, None, is_some, option_map}
-use Rattle.tail_settings.specs.SendingQueue.{SendingQueueData}
+use Rattle.std.specs.Prelude.{ℕ, ◌+◌, ◌-◌, ◌^◌, min, max, Bool, nat_lt, nat_le, ◌==◌, ◌&&◌, ◌||◌, if◌then◌else◌, List, [], ◌∷◌, ◌++◌, length, take, drop, Option, Some, None, is_some, option_map}
+use Rattle.tail_settings.specs.SendingQueue.{SendingQueueData, most_queue_bytes}
 use Rattle.tail_settings.specs.RetryOnFailure.{RetryData}
 use Rattle.send_retry.specs.declared.answer.Verdict.{Verdict}
 use Rattle.send_retry.specs.declared.answer.Verdict.TheVariants as verdicts
@@ -56,6 +56,14 @@ is_full batch s =
 -- a batch is offered: it waits behind the others, and a full queue takes it not
 abbrev pub offered : BatchData → SenderData → SenderData
 offered batch s = if is_full batch s then s else record s { queue = s.queue ++ batch ∷ [] }
+
+-- the batches that wait may have so many bytes together
+abbrev pub bounded : ℕ → SenderData → SenderData
+bounded bytes s = record s { sending = record (s.sending) { queue_bytes = bytes } }
+
+-- bytes are no bound for them, unless more were allowed than any queue has
+abbrev pub unbounded : SenderData → SenderData
+unbounded s = bounded (max s.sending.queue_bytes most_queue_bytes) s
 
 -- the last batch of a queue
 abbrev pub newest : List BatchData → Option BatchData

@@ -4,7 +4,7 @@ ghost use Rattle.std.specs.Prelude.{◌≡◌, ◌+◌, ◌<◌, ◌≤◌, ◌^
 ghost use Rattle.tail_settings.specs.SendingQueue.{sending_queue_view};
 ghost use Rattle.tail_settings.specs.RetryOnFailure.{retry_view};
 ghost use Rattle.send_retry.specs.Class.{answer_view};
-ghost use Rattle.send_queue.specs.Sender.{no_batches, payload_bytes, is_full, offered, newest, taken_back, first_retry, has_consumer, under, job, job_of, asked, handed_of, due_by, choice, leaving, choice_by, first_choice, retried, settled, answered, ready, next_retry, next_front, lesser};
+ghost use Rattle.send_queue.specs.Sender.{no_batches, payload_bytes, is_full, bounded, unbounded, offered, newest, taken_back, first_retry, has_consumer, under, job, job_of, asked, handed_of, due_by, choice, leaving, choice_by, first_choice, retried, settled, answered, ready, next_retry, next_front, lesser};
 ghost use Rattle.send_queue.specs.View.{batch_view, batch_in};
 ghost use Rattle.send_queue.specs.declared.fault.OfferFault.TheVariants.{Full};
 ghost use Rattle.send_queue.specs.declared.fault.SettleFault.TheVariants.{UnknownTicket};
@@ -20,7 +20,7 @@ use std::alloc::{AllocError, Global};
 use std::cmp::Reverse;
 use std::collections::{BinaryHeap, VecDeque};
 use std::marker::Model;
-use tail_settings::{RetryOnFailure, SendingQueue};
+use tail_settings::{MOST_QUEUE_BYTES, RetryOnFailure, SendingQueue};
 
 /// So many tickets are handed out at most.
 const MOST_TICKETS: u64 = 1 << 62;
@@ -103,6 +103,28 @@ impl SendQueue {
         ensures range { self.now.sending.queue_bytes ≤ 2 ^ 42 }
     {
         self.bytes_left
+    }
+
+    /// Bytes don't bound the batches that wait so any more. The answer is how many they might have, for `bound_bytes`.
+    pub fn lift_bound(&mut self) -> u64
+        ensures former { result ≡ self.old.sending.queue_bytes }
+        ensures unbound { self.new ≡ unbounded self.old }
+    {
+        let bound = self.sending.queue_bytes;
+        self.bytes_left += MOST_QUEUE_BYTES - bound;
+        self.sending.queue_bytes = MOST_QUEUE_BYTES;
+        bound
+    }
+
+    /// The batches that wait so may have so many bytes together, up to 2^42.
+    pub fn bound_bytes(&mut self, bytes: u64)
+        requires fits { payload_bytes self.old.queue ≤ bytes }
+        requires range { bytes ≤ 2 ^ 42 }
+        ensures { self.new ≡ bounded bytes self.old }
+    {
+        let waiting = self.sending.queue_bytes - self.bytes_left;
+        self.bytes_left = bytes - waiting;
+        self.sending.queue_bytes = bytes;
     }
 
     /// A batch that formed waits to be sent, behind the others. It comes back where the queue is full, in batches or in

@@ -84,7 +84,7 @@ abbrev pub is_grpc_port : Option (List ℕ) → Bool
 is_grpc_port None = false
 is_grpc_port (Some port) = bytes_eq port (codes "4317")
 
--- the line of a tenant whose back end is at such a port, where posts by HTTP/1.1 aren't answered
+-- the line of a tenant whose back end is at such a port, where mostly gRPC alone is answered
 abbrev pub grpc_line : List ℕ → List ℕ → List ℕ
 grpc_line name endpoint =
     if is_grpc_port (behind_colon None endpoint)

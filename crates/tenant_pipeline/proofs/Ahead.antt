@@ -71,9 +71,6 @@ turned_leaves moment own new p sends =
 
 -- ---- a batch is written
 
-pub ahead_same : (own : Pipeline) (p : Part TraceNote) → IsAhead own own p p
-ahead_same own p = record { whole = refl; shows = refl; holds = λ reached holds. holds; same = refl; more = omega arith }
-
 -- what the rules see
 pub state_ahead : (own new : Pipeline) (p q : Part TraceNote) → IsAhead own new p q → state_of new q ≡ state_of own p
 state_ahead own new p q ahead =

@@ -14,9 +14,8 @@ use Rattle.tenant_stores.specs.Part.{Part}
 use Rattle.tenant_stores.specs.View.{WaitingRow, waiting_rows}
 use Rattle.tenant_stores.specs.Counts.{range}
 use Rattle.tenant_rules.specs.Arrivals.{Arrival}
-use Rattle.tenant_rules.specs.Intake.{Verdict, shutting_down}
-use Rattle.tenant_rules.specs.Machine.{all_come, drain, post, post_verdict, posted, settled, turned, turned_by}
-use Rattle.tenant_rules.specs.Arrivals.{valid}
+use Rattle.tenant_rules.specs.Intake.{shutting_down}
+use Rattle.tenant_rules.specs.Machine.{drain, post_verdict, settled, turned, turned_by}
 use Rattle.tenant_rules.specs.Ready.{front_moment, lesser, next_decision, next_job, next_retry, ready}
 use Rattle.tenant_rules.specs.Sender.{ActiveData, BatchData, SenderData, Choice, Retried, Oldest, NoBatch, answered_by, choice, choice_by, due_by, first_retry, has_consumer, has_tickets, in_flight, oldest}
 use Rattle.tenant_rules.specs.State.{State}
@@ -199,10 +198,3 @@ module _ (own : Pipeline) (p : Part TraceNote) (decided : own.rows.decided ≡ o
 -- it takes no spans
 pub verdict_drained : (moment : ℕ) (arrivals : List Arrival) (s : State) → s.drained ≡ true → post_verdict moment arrivals s ≡ shutting_down
 verdict_drained moment arrivals s is = rw is refl
-
-pub post_drained : (moment : ℕ) (arrivals : List Arrival) (s : State) → s.drained ≡ true → post moment arrivals s ≡ s
-post_drained moment arrivals s is = ap (λ (v : Verdict). posted v s (all_come moment (valid arrivals) s)) (verdict_drained moment arrivals s is)
-
--- and another drain changes nothing
-pub drain_drained : (moment : ℕ) (s : State) → s.drained ≡ true → drain moment s ≡ s
-drain_drained moment s is = rw is refl

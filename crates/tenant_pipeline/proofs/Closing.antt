@@ -23,11 +23,11 @@ use Rattle.span_batcher.specs.Maps.{spans_of}
 use Rattle.tenant_rules.specs.Fate.{SettledData, WaitingData}
 use Rattle.tenant_rules.specs.Fronts.{decided_rows, AreInOrder, AllDueBy}
 use Rattle.tenant_rules.specs.Limits.{IsWithinLimits}
-use Rattle.tenant_rules.specs.Machine.{all_decided, closed, drain}
+use Rattle.tenant_rules.specs.Machine.{emptied}
 use Rattle.tenant_rules.specs.State.{State}
 use Rattle.tenant_rules.specs.Sum.{IsCounted}
-use Rattle.tenant_rules.proofs.Limits.{drains_stay_within}
-use Rattle.tenant_rules.proofs.Sums.{Kept, fixed_of, kept_of, counted_of, drain_kept}
+use Rattle.tenant_rules.proofs.Limits.{ends_stay_within}
+use Rattle.tenant_rules.proofs.Sums.{Kept, fixed_of, kept_of, counted_of, emptied_kept}
 use Rattle.tenant_pipeline.specs.declared.pipeline.Pipeline.{Pipeline}
 use Rattle.tenant_pipeline.specs.Acts.{at, ActsAt}
 use Rattle.tenant_pipeline.specs.Drains.{SendsAll, all_settled, keys_if, sampled_keys, closed_state}
@@ -74,10 +74,10 @@ at_counted moment s c = record {
 
 -- the state, and what holds while spans at these keys are still stored
 pub record Closed (moment : ℕ) (gone : List ℕ) (own new : Pipeline) (p q : Part TraceNote) : Type 0 where
-  pub state : ActsAt moment (drain moment) (written_state_of own p) (written_state_of new q)
+  pub state : ActsAt moment (emptied moment) (written_state_of own p) (written_state_of new q)
   pub held : PipelineInvariantAt moment gone [] new q
 
-module _ (own mid : Pipeline) (p q : Part TraceNote) (moment : ℕ) (gone : List ℕ) (held : PipelineInvariantAt moment [] [] own p) (first : own.drained ≡ false) (sends : SendsAll moment p own mid)
+module _ (own mid : Pipeline) (p q : Part TraceNote) (moment : ℕ) (gone : List ℕ) (held : PipelineInvariantAt moment [] [] own p) (first : own.drained ≡ true) (sends : SendsAll moment p own mid)
     (shows : view (record (counts_in own) { decided = own.rows.opened }) [] q ≡ record {
       settled = (view_in own p).settled ++ all_settled (policies_of own) (view_in own p).waiting;
       waiting = [];
@@ -89,7 +89,6 @@ module _ (own mid : Pipeline) (p q : Part TraceNote) (moment : ℕ) (gone : List
 
   abbrev new : Pipeline
   new = record own {
-    drained = true;
     rows = record own.rows { decided = own.rows.opened };
     batcher = fired mid.batcher;
     sender = mid.sender;
@@ -105,7 +104,7 @@ module _ (own mid : Pipeline) (p q : Part TraceNote) (moment : ℕ) (gone : List
   state_is =
       ap (λ (v : View TraceNote). at moment (state_by new v)) shows
       ∙ (λ i. record (at moment s) {
-        drained = true;
+        drained = first i;
         settled = settled_all i;
         waiting = [];
         pending = record { rules = sends.rules_are i; start = None; spans = [] };
@@ -113,11 +112,8 @@ module _ (own mid : Pipeline) (p q : Part TraceNote) (moment : ℕ) (gone : List
         ledger = mid.ledger;
       })
 
-  drain_is : drain moment (at moment s) ≡ closed_state moment s mid
-  drain_is = ap (λ (b : Bool). cond b (at moment s) (closed moment (all_decided moment s.waiting (at moment s)))) first ∙ sends.rules
-
   kept : Kept (fixed_of s) 0 0 (closed_state moment s mid)
-  kept = subst (λ (t : State). Kept (fixed_of s) 0 0 t) drain_is (drain_kept (fixed_of s) moment (at moment s) (kept_of (at moment s) (at_counted moment s held.counted)))
+  kept = subst (λ (t : State). Kept (fixed_of s) 0 0 t) sends.rules (emptied_kept (fixed_of s) moment (at moment s) (kept_of (at moment s) (at_counted moment s held.counted)))
 
   counted : IsCounted (written_state_of new q)
   counted = counted_at moment (written_state_of new q)
@@ -126,7 +122,7 @@ module _ (own mid : Pipeline) (p q : Part TraceNote) (moment : ℕ) (gone : List
   within : IsWithinLimits (written_state_of new q)
   within =
       let was : IsWithinLimits (at moment s) = within_with s.clock moment s held.within in
-      let limits : IsWithinLimits (closed_state moment s mid) = subst IsWithinLimits drain_is (drains_stay_within moment (at moment s) was) in
+      let limits : IsWithinLimits (closed_state moment s mid) = subst IsWithinLimits sends.rules (ends_stay_within moment (at moment s) first was) in
       within_with moment (written_state_of new q).clock (written_state_of new q) (subst IsWithinLimits (sym state_is) limits)
 
   pub closed_by : Closed moment gone own new p q
@@ -134,7 +130,7 @@ module _ (own mid : Pipeline) (p q : Part TraceNote) (moment : ℕ) (gone : List
       let waiting : (written_state_of new q).waiting ≡ [] = ap (λ (t : State). t.waiting) state_is in
       let left : (view_in new q).waiting ≡ [] = ap (λ (v : View TraceNote). v.waiting) shows in
       record {
-        state = state_is ∙ sym drain_is;
+        state = state_is ∙ sym sends.rules;
         held = record {
           sound = subst (λ (keys : List ℕ). StoreInvariant (counts_in new) keys [] q) (sym (append-nil gone)) sound;
           first_is = held.first_is;
@@ -156,7 +152,7 @@ module _ (own mid : Pipeline) (p q : Part TraceNote) (moment : ℕ) (gone : List
 
 -- the tenant then, by the rules
 pub record Ended (moment : ℕ) (own new : Pipeline) (p q : Part TraceNote) : Type 0 where
-  pub state : ActsAt moment (drain moment) (written_state_of own p) (state_of new q)
+  pub state : ActsAt moment (emptied moment) (written_state_of own p) (state_of new q)
   pub held : PipelineInvariantFrom moment new q
 
 -- batches that aren't written stand behind those that are, and nothing else differs
@@ -184,7 +180,7 @@ sampled_few policies rows (number ∷ numbers) key =
 
 -- the rows have their verdicts in the stores, and the spans leave them whose batches were dropped or written
 module _ (own mid end : Pipeline) (b : batcher.State ℕ) (stores decided last : Stores TraceNote) (gone : List ℕ) (us : List (Batch ℕ)) (moment : ℕ)
-    (held : PipelineInvariantAt moment [] [] own (part_in own stores)) (first : own.drained ≡ false) (sends : SendsAll moment (part_in own stores) own (written_with us (part_in own stores) mid)) (b_is : b ≡ fired mid.batcher)
+    (held : PipelineInvariantAt moment [] [] own (part_in own stores)) (first : own.drained ≡ true) (sends : SendsAll moment (part_in own stores) own (written_with us (part_in own stores) mid)) (b_is : b ≡ fired mid.batcher)
     (behind : 0 < length us → 0 < length mid.sender.queue)
     (end_is : end ≡ record mid { batcher = b; rows = record mid.rows { decided = mid.rows.opened } })
     (keys : (key : ℕ) → count key gone + count key (spans_of us) ≡ count key own.batcher.spans + count key (sampled_keys (policies_of own) (part_in own stores).rows (waiting_numbers (counts_in own))))
@@ -308,26 +304,25 @@ module _ (own mid end : Pipeline) (b : batcher.State ℕ) (stores decided last :
   sent_same : unsent_at (part own.tenant last) us ≡ unsent_at p us
   sent_same = unsent_same us p (part own.tenant last) left_same
 
-  pub ends : Ended moment own (record end { drained = true; unsent = us }) p (part_in end last)
+  pub ends : Ended moment own (record end { unsent = us }) p (part_in end last)
   ends =
       let q = part own.tenant last in
       let sent = written_with us p mid in
       let now : Pipeline = record own {
-        drained = true;
         rows = record own.rows { decided = own.rows.opened };
         batcher = fired sent.batcher;
         sender = sent.sender;
         ledger = sent.ledger;
       } in
-      let new : Pipeline = record ended { drained = true; unsent = us } in
+      let new : Pipeline = record ended { unsent = us } in
       let closed : Closed moment (spans_of us) own now p q =
       closed_by own sent p q moment (spans_of us) held first sends (left_shown [] (λ key. omega arith) ∙ decided_shows) left_sound in
       let now_is : now ≡ all_written new q = λ i. record now { sender = with_behind (sym sent_same i) mid.sender; unsent = held.unsent_is i } in
       let done : Ended moment own new p q = record {
-        state = subst (λ (o : Pipeline). ActsAt moment (drain moment) (written_state_of own p) (written_state_of o q)) now_is closed.state;
+        state = subst (λ (o : Pipeline). ActsAt moment (emptied moment) (written_state_of own p) (written_state_of o q)) now_is closed.state;
         held = record {
           whole = subst (λ (o : Pipeline). PipelineInvariantAt moment (spans_of us) [] o q) now_is closed.held;
-          behind = is_behind us new behind refl refl refl;
+          behind = is_behind us new behind first refl refl;
         };
       } in
-      subst (λ (x : Pipeline). Ended moment own (record x { drained = true; unsent = us }) p (part_in x last)) (sym ended_is) done
+      subst (λ (x : Pipeline). Ended moment own (record x { unsent = us }) p (part_in x last)) (sym ended_is) done

@@ -11,7 +11,6 @@ use Rattle.span_batcher.specs.Batches.{Batch}
 use Rattle.span_batcher.specs.State as batcher
 use Rattle.span_batcher.specs.State.{next_due, IsAfter}
 use Rattle.span_batcher.specs.Machine.{fired, drained}
-use Rattle.span_batcher.specs.Marks.{MarkData, cut_back}
 use Rattle.span_pool.specs.Stored.{StoredData}
 use Rattle.tail_policy.specs.declared.note.TraceNote.{TraceNote}
 use Rattle.tail_policy.specs.Note.{verdict_of}
@@ -41,11 +40,9 @@ use Rattle.tenant_pipeline.specs.Acts.{at}
 use Rattle.tenant_pipeline.specs.Drains.{SendsRow, SendsRest, SendsAll}
 use Rattle.tenant_pipeline.specs.Invariant.{IsNoted, PipelineInvariantAt}
 use Rattle.tenant_pipeline.specs.StateIn.{arrivals_of, counts_in, policies_of, waiting_of, written_state_of}
-use Rattle.tenant_pipeline.specs.Outbox.{arrivals_at, pending_at, undone, AreThere, Fits, HasRoom, Groups, Sends, Took}
+use Rattle.tenant_pipeline.specs.Outbox.{arrivals_at, pending_at, AreThere, Fits, HasRoom, Groups, Sends}
 use Rattle.tenant_pipeline.specs.Undo.{before, TakesBack}
-use Rattle.drop_ledger.specs.Ledger.{ledger_of}
 use Rattle.tenant_pipeline.proofs.Ranges.{room_within}
-use Rattle.tenant_pipeline.proofs.Sending.{undone-add}
 use Rattle.tenant_pipeline.proofs.Spans.{arrival_or, there_is, there-back}
 use Rattle.tenant_pipeline.proofs.Timing.{verdict_is}
 
@@ -105,7 +102,7 @@ row_dropped own p row moment n verdict size after pending room =
       rules_are = refl;
       timer = after;
       pending_is = pending;
-      room = record { size = room.size; bytes = room.bytes; fits = room.fits };
+      room = record { size = room.size; fits = room.fits };
     }
 
 -- what is known of a row that waits
@@ -152,7 +149,6 @@ rest_some own mid p moment b some there is_batch sends settings left room = reco
       let section : mid.section ≡ own.section = ap (λ (x : Pipeline). x.section) sends.same in
       record {
         size = ap (λ (x : SendingQueueData). x.queue_size) settings ∙ (room.size ∙ ap (λ (x : Section). x.sending_queue.queue_size) (sym section));
-        bytes = ap (λ (x : SendingQueueData). x.queue_bytes) settings ∙ (room.bytes ∙ ap (λ (x : Section). x.sending_queue.queue_bytes) (sym section));
         fits = left room.fits;
       };
 }
@@ -166,24 +162,8 @@ rest_none own p moment none room = record {
       ∙ (ap (λ (keys : List ℕ). all_queued (all_sent (option_to_list (drained moment (arrivals_at p keys)))) t) none
       ∙ (λ i. let u : State = record t { sender = is.sender i; ledger = is.ledger i } in u));
   same = refl;
-  room = record { size = room.size; bytes = room.bytes; fits = room.fits };
+  room = record { size = room.size; fits = room.fits };
 }
-
--- it can be taken back
-pub rest_undo : (u v : Undo) (own mid : Pipeline) (offers : ℕ) → mid ≡ record own { sender = mid.sender; ledger = mid.ledger } → Took offers own.sender mid.sender →
-    v.rows ≡ u.rows → v.counters ≡ u.counters → v.mark ≡ u.mark → v.former ≡ u.former → v.offers ≡ u.offers + offers →
-    (start : Pipeline) → TakesBack u start own → TakesBack v start mid
-rest_undo u v own mid offers same took rows counters mark former more start back =
-    let kept : mid.batcher ≡ own.batcher = ap (λ (x : Pipeline). x.batcher) same in
-    record {
-      rows = rows ∙ back.rows;
-      ledger = ap ledger_of counters ∙ back.ledger;
-      batcher = (λ i. cut_back (mark i) (before (former i) (kept i))) ∙ back.batcher;
-      mark = let few = back.mark in let same : v.mark.count ≡ u.mark.count = ap (λ (m : MarkData). m.count) mark in let size : length (before v.former mid.batcher).spans ≡ length (before u.former own.batcher).spans = λ i. length (before (former i) (kept i)).spans in omega (arith, few, same, size);
-      sender = ap (λ (n : ℕ). undone n mid.sender) more ∙ (undone-add u.offers offers mid.sender ∙ (ap (undone u.offers) took.back ∙ back.sender));
-      offers = let count = took.count in let few = back.offers in omega (arith, more, count, few);
-      same = back.same ∙ sym (ap (λ (x : Pipeline). let y : Pipeline = record x { rows = start.rows; ledger = start.ledger; batcher = start.batcher; sender = start.sender } in y) same);
-    }
 
 -- what changes the counters alone can be taken back as before
 pub back_same : (u : Undo) (start own new : Pipeline) → new ≡ record own { ledger = new.ledger } → TakesBack u start own → TakesBack u start new

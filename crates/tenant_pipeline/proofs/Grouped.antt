@@ -71,7 +71,6 @@ module _ (own mid : Pipeline) (p : Part TraceNote) (moment : ℕ) (keys : List �
       let section : mid.section ≡ own.section = ap (λ (x : Pipeline). x.section) sends.same in
       record {
         size = ap (λ (x : SendingQueueData). x.queue_size) settings ∙ (room.size ∙ ap (λ (x : Section). x.sending_queue.queue_size) (sym section));
-        bytes = ap (λ (x : SendingQueueData). x.queue_bytes) settings ∙ (room.bytes ∙ ap (λ (x : Section). x.sending_queue.queue_bytes) (sym section));
         fits = left room.fits;
       }
 

@@ -114,10 +114,6 @@ given_back p start holds =
 pub among_more : (keys xs ys : List ℕ) → AreAmong keys xs → AreAmong keys (xs ++ ys)
 among_more keys xs ys among = λ key. let both = count-append key xs ys in let few = among key in omega (arith, both, few)
 
--- keys that are given are among those in hand
-pub among_given : (like : Option TextKeys) (keys : TextKeys) (held : List ℕ) → like ≡ Some keys → AreAmong (text_keys keys) held → AreAmong (keys_if like) held
-among_given like keys held is among = subst (λ (l : Option TextKeys). AreAmong (keys_if l) held) (sym is) among
-
 pub among_taken : (like : Option TextKeys) (keys : TextKeys) (held : List ℕ) → like ≡ Some keys → AreAmong (keys_if like) held → AreAmong (text_keys keys) held
 among_taken like keys held is among = subst (λ (l : Option TextKeys). AreAmong (keys_if l) held) is among
 

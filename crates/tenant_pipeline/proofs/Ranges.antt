@@ -26,7 +26,6 @@ room_within own p within =
     let light = within.queue_bytes_fit in
     record {
       size = size;
-      bytes = bytes;
       fits = record { few = omega (arith, size, few); light = omega (arith, bytes, light) };
     }
 

@@ -49,10 +49,9 @@ pub record Fits (s : SenderData) : Type 0 where
   pub few : length s.queue ≤ s.sending.queue_size
   pub light : payload_bytes s.queue ≤ s.sending.queue_bytes
 
--- nor than the tenant's do
+-- nor more batches than the tenant's do
 pub record HasRoom (own : Pipeline) : Type 0 where
   pub size : own.sender.sending.queue_size ≡ own.section.sending_queue.queue_size
-  pub bytes : own.sender.sending.queue_bytes ≡ own.section.sending_queue.queue_bytes
   pub fits : Fits own.sender
 
 -- a group of spans, by key, waits for a batch from a moment on, and batches that this fills are offered: that changes

@@ -1,6 +1,6 @@
 //! The end of a tenant: its rows are decided at once, and all that is pending is one batch.
 
-ghost use Rattle.std.specs.Prelude.{◌≡◌, ◌≢◌, ◌<◌, ◌≤◌, ◌+◌, [], false, ◌^◌, ℕ, List, None, Some, OnOk, OnErr, length};
+ghost use Rattle.std.specs.Prelude.{◌≡◌, ◌≢◌, ◌<◌, ◌≤◌, ◌+◌, [], true, ◌^◌, ℕ, List, None, Some, OnOk, OnErr, length};
 ghost use Rattle.span_batcher.specs.Maps.{spans_of};
 ghost use Rattle.span_batcher.specs.State.{next_due, IsAfter};
 ghost use Rattle.trace_rows.specs.Part.{with_at};
@@ -13,7 +13,7 @@ ghost use Rattle.tenant_stores.specs.Shows.{row_shown};
 ghost use Rattle.tenant_stores.specs.View.{view};
 ghost use Rattle.tail_settings.specs.Section.{section_view};
 ghost use Rattle.tenant_rules.specs.Batching.{rules_of};
-ghost use Rattle.tenant_rules.specs.Machine.{drain};
+ghost use Rattle.tenant_rules.specs.Machine.{emptied};
 ghost use Rattle.tenant_pipeline.specs.declared.pipeline.Pipeline.{Pipeline as Own};
 ghost use Rattle.tenant_pipeline.specs.Acts.{ActsAt};
 ghost use Rattle.tenant_pipeline.specs.Drains.{HasRow, SendsRowUnsent, SendsRestUnsent, SendsAll, SettlesAlike, SettlesSoundly, StaysAlikeWith, StaysSoundWith};
@@ -34,10 +34,11 @@ use tail_policy::TraceNote;
 use tenant_stores::Stores;
 
 impl Pipeline {
-    /// The first drain, at a moment, in milliseconds, by which no timer is due. Its batches are decided, and one at
-    /// most is written; the spans of the others stay in the stores until they are. This takes four bytes for each span
-    /// in a batch, and for one batch at a time, until its size is known, a pointer for each span and 32 bytes for each
-    /// run of neighbours with the same resource and scope. Where memory is refused, nothing has changed.
+    /// The end of a tenant that is drained, at a moment, in milliseconds, by which no timer is due. Its batches are
+    /// decided, and one at most is written; the spans of the others stay in the stores until they are. This takes four
+    /// bytes for each span in a batch, and for one batch at a time, until its size is known, a pointer for each span
+    /// and 32 bytes for each run of neighbours with the same resource and scope. Where memory is refused, nothing has
+    /// changed.
     pub(crate) fn close(
         &mut self,
         stores: &mut Stores<TraceNote>,
@@ -45,8 +46,8 @@ impl Pipeline {
     ) -> Result<(), AllocError>
         requires holds { PipelineInvariantAt moment [] [] self.old (part_in self.old stores.old) }
         requires quiet { IsAfter (next_due self.old.batcher) moment }
-        requires first { self.old.drained ≡ false }
-        ensures on_success { OnOk result (ActsAt moment (drain moment)
+        requires drained { self.old.drained ≡ true }
+        ensures on_success { OnOk result (ActsAt moment (emptied moment)
             (written_state_in self.old stores.old) (state_in self.new stores.new)) }
         ensures holds { OnOk result (PipelineInvariantFrom moment self.new
             (part_in self.new stores.new)) }
@@ -68,7 +69,6 @@ impl Pipeline {
                 self.settle_rows(stores);
                 stores.flush(self.tenant, gone.as_slice());
                 self.unsent = unsent;
-                self.drained = true;
                 Ok(())
             }
             Err(refused) => {

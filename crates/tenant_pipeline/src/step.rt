@@ -241,7 +241,15 @@ impl Pipeline {
         if self.drained {
             return Ok(StepReply::Done);
         }
-        self.close(stores, moment)?;
-        Ok(StepReply::Done)
+        self.drained = true;
+        let bound = self.sender.lift_bound();
+        match self.close(stores, moment) {
+            Ok(()) => Ok(StepReply::Done),
+            Err(refused) => {
+                self.drained = false;
+                self.sender.bound_bytes(bound);
+                Err(refused)
+            }
+        }
     }
 }

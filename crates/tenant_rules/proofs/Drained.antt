@@ -17,14 +17,14 @@ use Rattle.tenant_rules.specs.Own.{Own, Drain, clock, drained}
 use Rattle.tenant_rules.specs.Fate.{are_sampled, SettledData, WaitingData, settled}
 use Rattle.tenant_rules.specs.Events.{caches_of}
 use Rattle.tenant_rules.specs.Placement.{opened, placements, spans_in_rows}
-use Rattle.tenant_rules.specs.Sender.{BatchData, SenderData, sizes, active_sizes}
+use Rattle.tenant_rules.specs.Sender.{BatchData, SenderData, unbounded, sizes, active_sizes}
 use Rattle.tenant_rules.specs.Batching.{rules_of, as_sent, all_sent, formed, pending, waiting_rows, spans_in}
 use Rattle.tenant_rules.specs.Intake.{IntakeData, intake}
-use Rattle.tenant_rules.specs.Sending.{EndedData, newly_formed, all_offered, overflow, met_no_room, sender, ended}
+use Rattle.tenant_rules.specs.Sending.{EndedData, newly_formed, due_formed, made_by, all_offered, overflow, met_no_room, closes, sender, ended}
 use Rattle.tenant_rules.specs.State.{State, ended_places, not_sampled, ledger_at, state_at, state}
 use Rattle.tenant_rules.specs.Answers.{answer}
 use Rattle.tenant_rules.specs.Timers.{recount, all_queued, settle, sample, decide_row, advanced}
-use Rattle.tenant_rules.specs.Machine.{all_decided, drain, next, told}
+use Rattle.tenant_rules.specs.Machine.{all_decided, unbound, drain, next, told}
 use Rattle.tenant_rules.proofs.Times.{TakenBy, TakenBy_more, OpenedBy-opened}
 use Rattle.tenant_rules.proofs.Later.{formed_later}
 use Rattle.tenant_rules.proofs.Events.{caches_drained}
@@ -124,13 +124,14 @@ counts_are w i e D D' P f = refl
 
 drain_first : (w : SectionData) (i : IntakeData) (e : ℕ) (D : SenderData) (es : List EndedData) (M : List BatchData) → 0 < w.tail_sampling.num_traces → AreValidRules (rules_of w) → TakenBy e i.spans →
     M ≡ all_sent (closing w.tail_sampling.policies e (waiting_rows w e None i.spans) (pending w e None i.spans)) →
-    state_with w i e (Some e) (all_offered M D) (map met_no_room (overflow M D) ++ es) ≡ drain e (state_with w i e None D es)
+    state_with w i e (Some e) (all_offered M (unbounded D)) (map met_no_room (overflow M (unbounded D)) ++ es) ≡ drain e (state_with w i e None D es)
 drain_first w i e D es M pos sound by same =
+    let U = unbounded D in
     let A = i.spans in
     let p = w.tail_sampling.policies in
     let N = spans_in_rows w A in
     let R = opened w A in
-    let s = state_with w i e None D es in
+    let s = unbound (state_with w i e None D es) in
     let l = ledger_at w i e None D (ended_places es) in
     let W = waiting_rows w e None A in
     let P = pending w e None A in
@@ -139,7 +140,7 @@ drain_first w i e D es M pos sound by same =
     let fields = all_decided-is e e p W s refl refl in
     let tally = all_decided_tally l (not_sampled w e None A) (ended_places es).queue_full e p W s refl refl (tally_at w i e D es) in
     let C = all_sent (all_cut p e W P) in
-    let sent1 = all_offered C D in
+    let sent1 = all_offered C U in
     let pending1 : t.pending ≡ all_added p e W P = ap (λ (z : State). z.pending) fields in
     let sender1 : t.sender ≡ sent1 = ap (λ (z : State). z.sender) fields in
     let waits1 : t.waiting ≡ [] = ap (λ (z : State). z.waiting) fields in
@@ -148,31 +149,31 @@ drain_first w i e D es M pos sound by same =
     let last : B ≡ B' = ap (λ (q : batcher.State Arrival). all_sent (option_to_list (machine.drained e q.spans))) pending1 in
     let t0 : State = record t { drained = true; pending = fired t.pending } in
     let n1 = not_sampled w e None A + all_lost p W in
-    let f1 = (ended_places es).queue_full + sizes (overflow C D) in
+    let f1 = (ended_places es).queue_full + sizes (overflow C U) in
     let u = spans_in t.waiting in
     let q = sizes t.sender.queue in
     let a = active_sizes t.sender.active in
     let start : t0.ledger ≡ set_counts l u (0 + sizes B) q a n1 f1 = tally ∙ set_same l u u (length t.pending.spans) (0 + sizes B) q q a a n1 n1 f1 f1 refl (omega (arith, drained_size e t.pending.spans)) refl refl refl refl in
     let queued = queued_tally B t0 l u 0 n1 f1 start in
     let split : M ≡ C ++ B' = same ∙ map-append as_sent (all_cut p e W P) (option_to_list (machine.drained e (all_added p e W P).spans)) in
-    let D' = all_offered M D in
-    let sender_is : D' ≡ all_offered B t.sender = ap (λ (bs : List BatchData). all_offered bs D) split ∙ (all_offered-append C B' D ∙ cc (last, sender1)) in
-    let over : overflow M D ≡ overflow C D ++ overflow B' sent1 = ap (λ (bs : List BatchData). overflow bs D) split ∙ overflow-append C B' D in
+    let D' = all_offered M U in
+    let sender_is : D' ≡ all_offered B t.sender = ap (λ (bs : List BatchData). all_offered bs U) split ∙ (all_offered-append C B' U ∙ cc (last, sender1)) in
+    let over : overflow M U ≡ overflow C U ++ overflow B' sent1 = ap (λ (bs : List BatchData). overflow bs U) split ∙ overflow-append C B' U in
     let over_last : sizes (overflow B t.sender) ≡ sizes (overflow B' sent1) = cc (last, sender1) in
-    let over_all : sizes (overflow M D) ≡ sizes (overflow C D) + sizes (overflow B t.sender) = omega (arith, ap sizes over, sizes-append (overflow C D) (overflow B' sent1), over_last) in
+    let over_all : sizes (overflow M U) ≡ sizes (overflow C U) + sizes (overflow B t.sender) = omega (arith, ap sizes over, sizes-append (overflow C U) (overflow B' sent1), over_last) in
     let no_rows : waiting_rows w e (Some e) A ≡ [] = waits_none w e e (length R) N R (omega arith) in
     let pends : pending w e (Some e) A ≡ fired (all_added p e W P) = pending_drained w e A pos sound by in
     let drops = dropped_drained w e N R R pos opens in
     let ns : not_sampled w e (Some e) A ≡ n1 = omega (arith, drops) in
-    let f = (ended_places es).queue_full + sizes (overflow M D) in
-    let now : ledger_at w i e (Some e) D' (ended_places (map met_no_room (overflow M D) ++ es)) ≡ set_counts l (spans_in (waiting_rows w e (Some e) A)) (length (pending w e (Some e) A).spans) (sizes D'.queue) (active_sizes D'.active) (not_sampled w e (Some e) A) f =
-    ap (λ (z : Places). ledger_at w i e (Some e) D' z) (ended_met (overflow M D) es) ∙ counts_are w i e D D' (ended_places es) f in
-    let ledger_is : ledger_at w i e (Some e) D' (ended_places (map met_no_room (overflow M D) ++ es)) ≡ (all_queued B t0).ledger =
+    let f = (ended_places es).queue_full + sizes (overflow M U) in
+    let now : ledger_at w i e (Some e) D' (ended_places (map met_no_room (overflow M U) ++ es)) ≡ set_counts l (spans_in (waiting_rows w e (Some e) A)) (length (pending w e (Some e) A).spans) (sizes D'.queue) (active_sizes D'.active) (not_sampled w e (Some e) A) f =
+    ap (λ (z : Places). ledger_at w i e (Some e) D' z) (ended_met (overflow M U) es) ∙ counts_are w i e D D' (ended_places es) f in
+    let ledger_is : ledger_at w i e (Some e) D' (ended_places (map met_no_room (overflow M U) ++ es)) ≡ (all_queued B t0).ledger =
     now ∙ (set_same l (spans_in (waiting_rows w e (Some e) A)) u (length (pending w e (Some e) A).spans) 0 (sizes D'.queue) (sizes (all_offered B t.sender).queue) (active_sizes D'.active) (active_sizes (all_offered B t.sender).active) (not_sampled w e (Some e) A) n1 f (f1 + sizes (overflow B t.sender))
     (ap spans_in no_rows ∙ sym (ap spans_in waits1)) (ap (λ (z : batcher.State Arrival). length z.spans) pends) (ap (λ (z : SenderData). sizes z.queue) sender_is) (ap (λ (z : SenderData). active_sizes z.active) sender_is) ns (omega (arith, over_all)) ∙ sym queued) in
     let base : State = record s { drained = true } in
-    let all : state_with w i e (Some e) D' (map met_no_room (overflow M D) ++ es) ≡ record base { clock = e; settled = s.settled ++ all_done p W; waiting = []; pending = fired (all_added p e W P); sender = D'; ledger = (all_queued B t0).ledger } =
-    state_same base (settled w e (Some e) N (length R) R) (settled w e None N (length R) R ++ all_done p W) (waiting_rows w e (Some e) A) [] (pending w e (Some e) A) (fired (all_added p e W P)) D' e (ledger_at w i e (Some e) D' (ended_places (map met_no_room (overflow M D) ++ es))) (all_queued B t0).ledger (caches_of w e (Some e) (placements w A) R) s.caches (settled_drained w e e (length R) N R opens) no_rows pends ledger_is (caches_drained w e (placements w A) R) in
+    let all : state_with w i e (Some e) D' (map met_no_room (overflow M U) ++ es) ≡ record base { clock = e; settled = s.settled ++ all_done p W; waiting = []; pending = fired (all_added p e W P); sender = D'; ledger = (all_queued B t0).ledger } =
+    state_same base (settled w e (Some e) N (length R) R) (settled w e None N (length R) R ++ all_done p W) (waiting_rows w e (Some e) A) [] (pending w e (Some e) A) (fired (all_added p e W P)) D' e (ledger_at w i e (Some e) D' (ended_places (map met_no_room (overflow M U) ++ es))) (all_queued B t0).ledger (caches_of w e (Some e) (placements w A) R) s.caches (settled_drained w e e (length R) N R opens) no_rows pends ledger_is (caches_drained w e (placements w A) R) in
     let sent : record base { clock = e; settled = s.settled ++ all_done p W; waiting = []; pending = fired (all_added p e W P); sender = D'; ledger = (all_queued B t0).ledger } ≡ record base { clock = e; settled = s.settled ++ all_done p W; waiting = []; pending = fired (all_added p e W P); sender = all_offered B t.sender; ledger = (all_queued B t0).ledger } =
     ap (λ (z : SenderData). record base { clock = e; settled = s.settled ++ all_done p W; waiting = []; pending = fired (all_added p e W P); sender = z; ledger = (all_queued B t0).ledger }) sender_is in
     let made : resent (all_offered B t.sender) (all_queued B t0).ledger (record (set_to e t) { drained = true; pending = fired t.pending }) ≡ record base { clock = e; settled = s.settled ++ all_done p W; waiting = []; pending = fired (all_added p e W P); sender = all_offered B t.sender; ledger = (all_queued B t0).ledger } =
@@ -189,37 +190,43 @@ met_append xs ys es =
     let both : P.queue_full + sizes (xs ++ ys) ≡ P.queue_full + sizes xs + sizes ys = omega (arith, sizes-append xs ys) in
     ended_met (xs ++ ys) es ∙ (ap (λ (n : ℕ). record P { queue_full = n }) both ∙ (ap (λ (q : Places). record q { queue_full = q.queue_full + sizes ys }) (sym (ended_met xs es)) ∙ sym (ended_met ys (map met_no_room xs ++ es))))
 
-drain_by : (w : SectionData) (i : IntakeData) (d e : ℕ) (o : Option ℕ) (D : SenderData) (es : List EndedData) (new : List BatchData) → 0 < w.tail_sampling.num_traces → AreValidRules (rules_of w) → d ≤ e → TakenBy d i.spans → DrainedBy o d i.spans →
-    new ≡ drop (length (formed w d o i.spans)) (formed w e (Some (unwrap_or o e)) i.spans) →
-    state_with w i e (Some (unwrap_or o e)) (all_offered new D) (map met_no_room (overflow new D) ++ es) ≡ drain e (advanced e (state_with w i d o D es))
-drain_by w i d e (Some x) D es new pos sound le by drain_at is =
+drain_by : (w : SectionData) (i : IntakeData) (d e : ℕ) (o : Option ℕ) (D : SenderData) (es : List EndedData) (new due made : List BatchData) → 0 < w.tail_sampling.num_traces → AreValidRules (rules_of w) → d ≤ e → TakenBy d i.spans → DrainedBy o d i.spans →
+    new ≡ drop (length (formed w d o i.spans)) (formed w e (Some (unwrap_or o e)) i.spans) → due ≡ drop (length (formed w d o i.spans)) (formed w e o i.spans) → made ≡ drop (length due) new →
+    state_with w i e (Some (unwrap_or o e)) (cond (closes (Drain e) o) (all_offered made (unbounded (all_offered due D))) (all_offered new D))
+    (map met_no_room (cond (closes (Drain e) o) (overflow due D ++ overflow made (unbounded (all_offered due D))) (overflow new D)) ++ es) ≡ drain e (advanced e (state_with w i d o D es))
+drain_by w i d e (Some x) D es new due made pos sound le by drain_at is due_is made_is =
     let A = i.spans in
     let none : new ≡ [] = is ∙ (ap (drop (length (formed w d (Some x) A))) (formed_stay w x d e A drain_at.0 (omega (arith, le, drain_at.0)) ∙ sym (append-nil (formed w d (Some x) A))) ∙ drop-append_seam (formed w d (Some x) A) []) in
     ap (λ (bs : List BatchData). state_with w i e (Some x) (all_offered bs D) (map met_no_room (overflow bs D) ++ es)) none
     ∙ ap (drain e) (stays w i x d e D es sound drain_at.0 le drain_at.1)
-drain_by w i d e None D es new pos sound le by drain_at is =
+drain_by w i d e None D es new due made pos sound le by drain_at is due_is made_is =
     let A = i.spans in
     let p = w.tail_sampling.policies in
+    let F = formed w d None A in
     let B = between w d e A in
     let M = all_sent (closing p e (waiting_rows w e None A) (pending w e None A)) in
     let later_by = TakenBy_more d e A le by in
-    let formed_is : formed w e (Some e) A ≡ formed w d None A ++ (B ++ M) = formed_drained w e A pos sound later_by ∙ (ap (λ (bs : List BatchData). bs ++ M) (formed_later w d e A pos sound le by) ∙ append_assoc (formed w d None A) B M) in
-    let all : new ≡ B ++ M = is ∙ (ap (drop (length (formed w d None A))) formed_is ∙ drop-append_seam (formed w d None A) (B ++ M)) in
+    let later = formed_later w d e A pos sound le by in
+    let formed_is : formed w e (Some e) A ≡ F ++ (B ++ M) = formed_drained w e A pos sound later_by ∙ (ap (λ (bs : List BatchData). bs ++ M) later ∙ append_assoc F B M) in
+    let all : new ≡ B ++ M = is ∙ (ap (drop (length F)) formed_is ∙ drop-append_seam F (B ++ M)) in
+    let due_all : due ≡ B = due_is ∙ (ap (drop (length F)) later ∙ drop-append_seam F B) in
+    let made_all : made ≡ M = made_is ∙ (ap (λ (bs : List BatchData). drop (length bs) new) due_all ∙ (ap (drop (length B)) all ∙ drop-append_seam B M)) in
     let sent1 = all_offered B D in
+    let U = unbounded sent1 in
     let es1 = map met_no_room (overflow B D) ++ es in
-    let first : state_with w i e (Some e) (all_offered new D) (map met_no_room (overflow new D) ++ es) ≡ state_with w i e (Some e) (all_offered (B ++ M) D) (map met_no_room (overflow (B ++ M) D) ++ es) =
-    ap (λ (bs : List BatchData). state_with w i e (Some e) (all_offered bs D) (map met_no_room (overflow bs D) ++ es)) all in
-    let places : ended_places (map met_no_room (overflow (B ++ M) D) ++ es) ≡ ended_places (map met_no_room (overflow M sent1) ++ es1) =
-    ap (λ (bs : List BatchData). ended_places (map met_no_room bs ++ es)) (overflow-append B M D) ∙ met_append (overflow B D) (overflow M sent1) es in
-    let second : state_with w i e (Some e) (all_offered (B ++ M) D) (map met_no_room (overflow (B ++ M) D) ++ es) ≡ state_with w i e (Some e) (all_offered M sent1) (map met_no_room (overflow M sent1) ++ es1) =
-    ap (λ (s : SenderData). state_at w A e (Some e) s (ledger_at w i e (Some e) s (ended_places (map met_no_room (overflow (B ++ M) D) ++ es)))) (all_offered-append B M D)
-    ∙ ap (λ (q : Places). state_at w A e (Some e) (all_offered M sent1) (ledger_at w i e (Some e) (all_offered M sent1) q)) places in
+    let first : state_with w i e (Some e) (all_offered made (unbounded (all_offered due D))) (map met_no_room (overflow due D ++ overflow made (unbounded (all_offered due D))) ++ es) ≡ state_with w i e (Some e) (all_offered M U) (map met_no_room (overflow B D ++ overflow M U) ++ es) =
+    ap (λ (bs : List BatchData). state_with w i e (Some e) (all_offered made (unbounded (all_offered bs D))) (map met_no_room (overflow bs D ++ overflow made (unbounded (all_offered bs D))) ++ es)) due_all
+    ∙ ap (λ (bs : List BatchData). state_with w i e (Some e) (all_offered bs U) (map met_no_room (overflow B D ++ overflow bs U) ++ es)) made_all in
+    let places : ended_places (map met_no_room (overflow B D ++ overflow M U) ++ es) ≡ ended_places (map met_no_room (overflow M U) ++ es1) = met_append (overflow B D) (overflow M U) es in
+    let second : state_with w i e (Some e) (all_offered M U) (map met_no_room (overflow B D ++ overflow M U) ++ es) ≡ state_with w i e (Some e) (all_offered M U) (map met_no_room (overflow M U) ++ es1) =
+    ap (λ (q : Places). state_at w A e (Some e) (all_offered M U) (ledger_at w i e (Some e) (all_offered M U) q)) places in
     first ∙ (second ∙ (drain_first w i e sent1 es1 M pos sound later_by refl ∙ ap (drain e) (elapsed w i d e D es pos sound le by)))
 
 pub drain_goes_on : (w : SectionData) (past : List Own) (now : ℕ) → 0 < w.tail_sampling.num_traces → AreValidRules (rules_of w) → state w (Drain now ∷ past) ≡ next (Drain now) (state w past)
 unfolding state next sender ended
 drain_goes_on w past now pos sound =
-    drain_by w (intake w past) (clock past) (clock (Drain now ∷ past)) (drained past) (sender w past) (ended w past) (newly_formed w (Drain now) past) pos sound (omega arith) (TakenBy-intake w past) (DrainedBy-intake w past) refl
+    let step = Drain now in
+    drain_by w (intake w past) (clock past) (clock (step ∷ past)) (drained past) (sender w past) (ended w past) (newly_formed w step past) (due_formed w step past) (made_by w step past) pos sound (omega arith) (TakenBy-intake w past) (DrainedBy-intake w past) refl refl refl
 
 pub drain_told : (w : SectionData) (past : List Own) (now : ℕ) → answer w past (Drain now) ≡ told (Drain now) (state w past)
 unfolding answer told

@@ -21,7 +21,7 @@ use Rattle.tenant_rules.specs.Ready.{lesser}
 use Rattle.decision_cache.specs.Caches.{found}
 use Rattle.tenant_rules.specs.State.{State, state}
 use Rattle.tenant_rules.specs.Timers.{recount, queued, all_queued, grouped, flushed, settle, sample, decide_row, remembered, decide, first_due, next_timer, is_batch, one_run, ran, enough, advanced}
-use Rattle.tenant_rules.specs.Machine.{held, sampled_in, has_row, evict_first, evict_waiting, evicted, joins, cached_or_opens, late_or_opens, counted_in, come, all_come, verdict, posted, turned_by, all_decided, closed, drain, acts, next}
+use Rattle.tenant_rules.specs.Machine.{held, sampled_in, has_row, evict_first, evict_waiting, evicted, joins, cached_or_opens, late_or_opens, counted_in, come, all_come, verdict, posted, turned_by, all_decided, closed, emptied, unbound, drain, acts, next}
 
 -- none of these formed after the moment
 abbrev pub FormedBy : ℕ → List BatchData → Type 0
@@ -140,9 +140,9 @@ drain_formed e s by = by_test s.drained
     close : (t : State) → Formed e t → Formed e (closed e t)
     close t these = all_queued_formed e (all_sent (option_to_list (machine.drained e t.pending.spans))) (record t { drained = true; pending = fired t.pending }) (last_formed e t.pending.spans) these
 
-    by_test : (b : Bool) → Formed e (cond b s (closed e (all_decided e s.waiting s)))
+    by_test : (b : Bool) → Formed e (cond b s (emptied e (unbound s)))
     by_test true = by
-    by_test false = close (all_decided e s.waiting s) (all_decided_formed e s.waiting s by)
+    by_test false = close (all_decided e s.waiting (unbound s)) (all_decided_formed e s.waiting (unbound s) by)
 
 evicted_sender : (s : State) → (evicted s).sender ≡ s.sender
 evicted_sender s = by_room (nat_lt s.opened s.section.tail_sampling.num_traces)

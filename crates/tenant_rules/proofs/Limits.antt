@@ -4,6 +4,7 @@ use Rattle.std.specs.Prelude.{drop, max, option_to_list, nat_le, nat_lt, ◌==�
 use Rattle.std.proofs.lemmas.Bool.Decides.{nat_tests}
 use Rattle.std.proofs.lemmas.List.{length-take}
 use Rattle.tail_settings.specs.Section.{SectionData}
+use Rattle.tail_settings.specs.SendingQueue.{most_queue_bytes}
 use Rattle.span_pool.specs.Stored.{same_bytes}
 use Rattle.send_retry.specs.Class.{AnswerData}
 use Rattle.send_queue.specs.declared.active.Retry.{Retry}
@@ -27,8 +28,8 @@ use Rattle.decision_cache.specs.Caches.{found}
 use Rattle.tenant_rules.specs.Events.{size_of}
 use Rattle.tenant_rules.specs.State.{State, state}
 use Rattle.tenant_rules.specs.Timers.{recount, queued, all_queued, grouped, flushed, settle, sample, decide_row, remembered, decide, first_due, next_timer, is_batch, one_run, ran, enough, advanced}
-use Rattle.tenant_rules.specs.Machine.{held, sampled_in, has_row, joined, evict_first, evict_waiting, evicted, opens, joins, cached_or_opens, late_or_opens, goes, counted_in, come, all_come, verdict, posted, post, turned_by, all_moved, all_decided, closed, drain, effective, acts, next}
-use Rattle.tenant_rules.specs.Limits.{longest, longest_active, IsWithinLimits, StepsStayWithin, FrontsStayWithin, PastsStayWithin, UnboundedRefusesNone}
+use Rattle.tenant_rules.specs.Machine.{held, sampled_in, has_row, joined, evict_first, evict_waiting, evicted, opens, joins, cached_or_opens, late_or_opens, goes, counted_in, come, all_come, verdict, posted, post, turned_by, all_moved, all_decided, closed, emptied, unbound, drain, effective, acts, next}
+use Rattle.tenant_rules.specs.Limits.{longest, longest_active, IsWithinLimits, StepsStayWithin, FrontsStayWithin, PastsStayWithin, UnboundedRefusesNone, UnboundedPastsRefuseNone}
 use Rattle.tenant_rules.proofs.Walked.{decide_row-is}
 use Rattle.tenant_rules.proofs.Steps.{IsNext, next_is, under_ticket, flying_under}
 use Rattle.tenant_rules.proofs.AnyStep.{step_follows}
@@ -189,18 +190,36 @@ all_decided_within n m (r ∷ rs) s is k =
     let waits : (decide_row m r rs s).waiting ≡ rs = ap (λ (t : State). t.waiting) (decide_row-is 0 m s.section.tail_sampling.policies r rs s refl) in
     all_decided_within n m rs (decide_row m r rs s) waits (decide_row_within n m r rs s is k)
 
-closed_within : (n m : ℕ) (s : State) → Within n s → Within n (closed m s)
-closed_within n m s k =
+-- its rows are decided by a tenant that is drained
+all_decided_drained : (m : ℕ) (ws : List WaitingData) (s : State) → s.waiting ≡ ws → (all_decided m ws s).drained ≡ s.drained
+all_decided_drained m [] s is = refl
+all_decided_drained m (r ∷ rs) s is =
+    let fields = decide_row-is 0 m s.section.tail_sampling.policies r rs s refl in
+    all_decided_drained m rs (decide_row m r rs s) (ap (λ (t : State). t.waiting) fields) ∙ ap (λ (t : State). t.drained) fields
+
+closed_within : (n m : ℕ) (s : State) → s.drained ≡ true → Within n s → Within n (closed m s)
+closed_within n m s is k =
     let t : State = record s { drained = true; pending = fired s.pending } in
-    let same : Within n t = omega arith in
+    let pends : Within n (record s { pending = fired s.pending }) = omega arith in
+    let same : Within n t = subst (λ (b : Bool). Within n (record s { drained = b; pending = fired s.pending })) is pends in
     all_queued_within n (all_sent (option_to_list (machine.drained m s.pending.spans))) t same
 
+emptied_within : (n m : ℕ) (s : State) → s.drained ≡ true → Within n s → Within n (emptied m s)
+emptied_within n m s is k = closed_within n m (all_decided m s.waiting s) (all_decided_drained m s.waiting s refl ∙ is) (all_decided_within n m s.waiting s refl k)
+
+unbound_within : (n : ℕ) (s : State) → s.drained ≡ false → Within n s → Within n (unbound s)
+unbound_within n s is k =
+    let own = s.section.sending_queue.queue_bytes in
+    let bytes : s.sender.sending.queue_bytes ≡ own = k.limits.queue_bytes_is ∙ ap (λ (b : Bool). cond b (max own most_queue_bytes) own) is in
+    let light : payload_bytes s.sender.queue ≤ own = subst (λ (b : Bool). payload_bytes s.sender.queue ≤ cond b (max own most_queue_bytes) own) is k.limits.queue_bytes_fit in
+    omega (arith, bytes, light)
+
 drain_within : (n m : ℕ) (s : State) → Within n s → Within n (drain m s)
-drain_within n m s k = by_test s.drained
+drain_within n m s k = by_test s.drained refl
   where
-    by_test : (b : Bool) → Within n (cond b s (closed m (all_decided m s.waiting s)))
-    by_test true = k
-    by_test false = closed_within n m (all_decided m s.waiting s) (all_decided_within n m s.waiting s refl k)
+    by_test : (b : Bool) → s.drained ≡ b → Within n (cond b s (emptied m (unbound s)))
+    by_test true is = k
+    by_test false is = emptied_within n m (unbound s) refl (unbound_within n s is k)
 
 -- ---- a post
 
@@ -406,9 +425,13 @@ offers_stay_within bs s is = (all_queued_within s.section.tail_sampling.num_trac
 pub remembered_stay_within : (sampled : Bool) (trace : List ℕ) (s : State) → IsWithinLimits s → IsWithinLimits (remembered sampled trace s)
 remembered_stay_within sampled trace s is = (remembered_within s.section.tail_sampling.num_traces sampled trace s (with_most s is)).limits
 
--- and a drain at a moment
-pub drains_stay_within : (m : ℕ) (s : State) → IsWithinLimits s → IsWithinLimits (drain m s)
-drains_stay_within m s is = (drain_within s.section.tail_sampling.num_traces m s (with_most s is)).limits
+-- and the end of a tenant that is drained
+pub ends_stay_within : (m : ℕ) (s : State) → s.drained ≡ true → IsWithinLimits s → IsWithinLimits (emptied m s)
+ends_stay_within m s drained is = (emptied_within s.section.tail_sampling.num_traces m s drained (with_most s is)).limits
+
+-- and a drain's beginning
+pub unbound_stays_within : (s : State) → s.drained ≡ false → IsWithinLimits s → IsWithinLimits (unbound s)
+unbound_stays_within s drained is = (unbound_within s.section.tail_sampling.num_traces s drained (with_most s is)).limits
 
 pub steps_stay_within : StepsStayWithin
 steps_stay_within step s some is = (next_within s.section.tail_sampling.num_traces step s some (with_most s is)).limits
@@ -451,10 +474,19 @@ either_of false true false light = let no : true ≡ false = light refl refl in 
 either_of false false long light = refl
 
 pub unbounded_refuses_none : UnboundedRefusesNone
-unbounded_refuses_none b s few most short =
+unbounded_refuses_none b s most short =
     either_of (nat_le s.sending.queue_size (length s.queue)) (nat_lt s.sending.queue_bytes (payload_bytes s.queue + length b.payload)) (nat_lt most_bytes (length b.payload)) (λ full_is long_is.
     let one : length s.queue < s.sending.queue_size = grind (arith, nat_tests, full_is) in
     let two : length b.payload ≤ 33554432 = grind (arith, nat_tests, long_is) in
     let all = payload_bytes-below s.queue short in
-    let light : payload_bytes s.queue + length b.payload ≤ s.sending.queue_bytes = omega (arith, one, two, all, few, most) in
+    let light : payload_bytes s.queue + length b.payload ≤ s.sending.queue_bytes = omega (arith, one, two, all, most) in
     grind (arith, nat_tests, light))
+
+pub unbounded_pasts_refuse_none : UnboundedPastsRefuseNone
+unbounded_pasts_refuse_none w some wait sound past most b =
+    let within = pasts_stay_within w some wait sound past in
+    let t = (state w past).sender in
+    let size = within.queue_size_is in
+    let bytes = within.queue_bytes_is in
+    let room : t.sending.queue_size * most_bytes ≤ t.sending.queue_bytes = omega (arith, size, bytes, most) in
+    unbounded_refuses_none b t room within.queue_short

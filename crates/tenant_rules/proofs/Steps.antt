@@ -205,10 +205,6 @@ settled_counts l active p = record l {
   };
 }
 
-counts_settled : (w : SectionData) (i : IntakeData) (e : ℕ) (o : Option ℕ) (D : SenderData) (active : List ActiveData) (P P' : Places) → ledger_at w i e o (record D { active = active }) P' ≡ settled_counts (ledger_at w i e o D P) (active_sizes active) P'
-unfolding ledger_at
-counts_settled w i e o D active P P' = refl
-
 -- each span of a batch that is settled is in one of the counts
 abbrev pub AddsUp : ℕ → FateData → Type 0
 AddsUp spans (Leaves (settleds.Taken exported rejected)) = exported + rejected ≡ spans

@@ -13,7 +13,7 @@ use Rattle.tenant_rules.specs.Sender.{BatchData, sizes, active_sizes, finds_no_r
 use Rattle.tenant_rules.specs.Batching.{all_sent, spans_in}
 use Rattle.tenant_rules.specs.State.{State}
 use Rattle.tenant_rules.specs.Timers.{recount, queued, all_queued, grouped, flushed, settle, sample, decide_row, remembered, decide, first_due, next_timer, is_batch, one_run, ran, enough, advanced}
-use Rattle.tenant_rules.specs.Machine.{all_decided, closed, drain}
+use Rattle.tenant_rules.specs.Machine.{all_decided, closed, emptied, unbound, drain}
 use Rattle.tenant_rules.specs.Sum.{IsCounted}
 use Rattle.tenant_rules.proofs.Walked.{decide_row-is}
 use Rattle.tenant_rules.proofs.Tally.{sizes_cons, sizes-append, cut_sizes}
@@ -179,9 +179,15 @@ closed_kept f m s k =
     let more : Kept f 0 (0 + sizes bs) t = omega arith in
     all_queued_kept f 0 0 bs t more
 
+pub emptied_kept : (f : Fixed) (m : ℕ) (s : State) → Kept f 0 0 s → Kept f 0 0 (emptied m s)
+emptied_kept f m s k = closed_kept f m (all_decided m s.waiting s) (all_decided_kept f m s.waiting s refl k)
+
 pub drain_kept : (f : Fixed) (m : ℕ) (s : State) → Kept f 0 0 s → Kept f 0 0 (drain m s)
 drain_kept f m s k = by_test s.drained
   where
-    by_test : (b : Bool) → Kept f 0 0 (cond b s (closed m (all_decided m s.waiting s)))
+    unbound_kept : Kept f 0 0 (unbound s)
+    unbound_kept = omega arith
+
+    by_test : (b : Bool) → Kept f 0 0 (cond b s (emptied m (unbound s)))
     by_test true = k
-    by_test false = closed_kept f m (all_decided m s.waiting s) (all_decided_kept f m s.waiting s refl k)
+    by_test false = emptied_kept f m (unbound s) unbound_kept

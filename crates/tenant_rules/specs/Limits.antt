@@ -2,7 +2,7 @@
 -- (`num_traces` and `decision_cache` of the Collector's tailsamplingprocessor, `queue_size` and `num_consumers` of its
 -- exporterhelper), its batches that wait have no more bytes together than they may, and no batch of it has more than
 -- any may have.
-use Rattle.std.specs.Prelude.{◌≡◌, ◌<◌, ◌≤◌, ◌+◌, ◌||◌, nat_le, nat_lt, ℕ, true, false, min, max, List, [], ◌∷◌, length}
+use Rattle.std.specs.Prelude.{◌≡◌, ◌<◌, ◌≤◌, ◌+◌, ◌*◌, ◌||◌, nat_le, nat_lt, ℕ, Bool, true, false, min, max, List, [], ◌∷◌, length, if◌then◌else◌}
 use Rattle.tail_settings.specs.Section.{SectionData}
 use Rattle.tail_settings.specs.SendingQueue.{most_queue_bytes}
 use Rattle.span_batcher.specs.Batches.{AreValidRules}
@@ -24,16 +24,22 @@ abbrev pub longest_active : List ActiveData → ℕ
 longest_active [] = 0
 longest_active (a ∷ rest) = max (length a.batch.payload) (longest_active rest)
 
+-- so many bytes batches that wait may have together: as the section says, and after a drain so many as any queue may
+abbrev pub bytes_allowed : State → ℕ
+bytes_allowed s =
+    if s.drained then max s.section.sending_queue.queue_bytes most_queue_bytes
+    else s.section.sending_queue.queue_bytes
+
 -- as many rows are present as have opened, or as may be; sender and caches go by the section's settings; no more
 -- batches wait than the queue takes, and they have no more bytes together than it takes; no more are active than there
 -- are consumers, none of either has more bytes than any may have, and no cache has more ids than it may
 pub record IsWithinLimits (s : State) : Type 0 where
   pub rows_are : length s.settled + length s.waiting ≡ min s.opened s.section.tail_sampling.num_traces
   pub queue_size_is : s.sender.sending.queue_size ≡ s.section.sending_queue.queue_size
-  pub queue_bytes_is : s.sender.sending.queue_bytes ≡ s.section.sending_queue.queue_bytes
+  pub queue_bytes_is : s.sender.sending.queue_bytes ≡ bytes_allowed s
   pub num_consumers_is : s.sender.sending.num_consumers ≡ s.section.sending_queue.num_consumers
   pub queue_fits : length s.sender.queue ≤ s.section.sending_queue.queue_size
-  pub queue_bytes_fit : payload_bytes s.sender.queue ≤ s.section.sending_queue.queue_bytes
+  pub queue_bytes_fit : payload_bytes s.sender.queue ≤ bytes_allowed s
   pub active_fit : length s.sender.active ≤ s.section.sending_queue.num_consumers
   pub queue_short : longest s.sender.queue ≤ most_bytes
   pub active_short : longest_active s.sender.active ≤ most_bytes
@@ -57,9 +63,19 @@ PastsStayWithin = (section : SectionData) → 0 < section.tail_sampling.num_trac
     0 < section.tail_sampling.decision_wait → AreValidRules (rules_of section) → (past : List Own) →
     IsWithinLimits (state section past)
 
--- where no bound of bytes was asked for none refuses a batch that would find room without it: as many batches as may
--- wait never have so many
+-- a batch finds no room in so many batches, or since it has more bytes than any may have
+abbrev pub meets_full_queue : BatchData → SenderData → Bool
+meets_full_queue batch s = nat_le s.sending.queue_size (length s.queue) || nat_lt most_bytes (length batch.payload)
+
+-- where as many batches as may wait can have as many bytes as they may, bytes refuse none: so where none asked for a
+-- bound, and for what a drain makes
 abbrev pub UnboundedRefusesNone : Type 0
-UnboundedRefusesNone = (batch : BatchData) (s : SenderData) → s.sending.queue_size ≤ 100000
-    → s.sending.queue_bytes ≡ most_queue_bytes → longest s.queue ≤ most_bytes → finds_no_room batch s
-    ≡ (nat_le s.sending.queue_size (length s.queue) || nat_lt most_bytes (length batch.payload))
+UnboundedRefusesNone = (batch : BatchData) (s : SenderData) → s.sending.queue_size * most_bytes ≤ s.sending.queue_bytes
+    → longest s.queue ≤ most_bytes → finds_no_room batch s ≡ meets_full_queue batch s
+
+-- so after every past
+abbrev pub UnboundedPastsRefuseNone : Type 0
+UnboundedPastsRefuseNone = (section : SectionData) → 0 < section.tail_sampling.num_traces →
+    0 < section.tail_sampling.decision_wait → AreValidRules (rules_of section) → (past : List Own) →
+    section.sending_queue.queue_size * most_bytes ≤ bytes_allowed (state section past) → (batch : BatchData) →
+    finds_no_room batch (state section past).sender ≡ meets_full_queue batch (state section past).sender

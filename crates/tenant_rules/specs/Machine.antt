@@ -15,7 +15,7 @@ use Rattle.tenant_rules.specs.Fate.{SettledData, WaitingData}
 use Rattle.decision_cache.specs.Caches.{found}
 use Rattle.tenant_rules.specs.Batching.{all_sent}
 use Rattle.tenant_rules.specs.Intake.{Verdict, shutting_down, counter_limit, exhausted, accepted, verdict_of}
-use Rattle.tenant_rules.specs.Sender.{Choice, Retried, Oldest, NoBatch, choice, handed_of, in_flight, answered}
+use Rattle.tenant_rules.specs.Sender.{Choice, Retried, Oldest, NoBatch, unbounded, choice, handed_of, in_flight, answered}
 use Rattle.tenant_rules.specs.Sending.{EndedData, ended_in_flight}
 use Rattle.tenant_rules.specs.State.{State}
 use Rattle.tenant_rules.specs.Answers.{reply_of, turn_told, heard}
@@ -174,9 +174,17 @@ closed moment s =
     all_queued (all_sent (option_to_list (batcher.drained moment s.pending.spans)))
     (record s { drained = true; pending = batcher.fired s.pending })
 
+-- all rows that wait are decided at a moment, and then what is pending is one batch
+abbrev pub emptied : ℕ → State → State
+emptied moment s = closed moment (all_decided moment s.waiting s)
+
+-- from its drain on bytes don't bound a tenant's queue
+abbrev pub unbound : State → State
+unbound s = record s { drained = true; sender = unbounded s.sender }
+
 -- a drain at a moment; a second one changes nothing
 abbrev pub drain : ℕ → State → State
-drain moment s = if s.drained then s else closed moment (all_decided moment s.waiting s)
+drain moment s = if s.drained then s else emptied moment (unbound s)
 
 -- ---- a step
 

@@ -2,7 +2,7 @@
 -- batches find room, and the counts of spans that its ledger takes from it (`sending_queue` and `retry_on_failure` of
 -- the Collector's exporterhelper).
 use Rattle.std.specs.Prelude.{ℕ, ◌+◌, ◌^◌, ◌||◌, Bool, List, [], ◌∷◌, ◌++◌, length, nat_lt, if◌then◌else◌}
-pub use Rattle.send_queue.specs.Sender.{BatchData, ActiveData, SenderData, no_batches, payload_bytes, is_full, has_tickets, has_consumer, first_retry, due_by, Choice, Retried, Oldest, NoBatch, oldest, under, retried, choice_by, choice, without, replaced, sent_again, sent_first, handed_of, asked, FateData, Leaves, Stays, fate_next, fate_by, fate, settled_by, flying, in_flight, left_by, answered_by, answered}
+pub use Rattle.send_queue.specs.Sender.{BatchData, ActiveData, SenderData, no_batches, payload_bytes, is_full, unbounded, has_tickets, has_consumer, first_retry, due_by, Choice, Retried, Oldest, NoBatch, oldest, under, retried, choice_by, choice, without, replaced, sent_again, sent_first, handed_of, asked, FateData, Leaves, Stays, fate_next, fate_by, fate, settled_by, flying, in_flight, left_by, answered_by, answered}
 
 -- so many bytes a batch has at most, 32 MiB: a receiver of the Collector takes 20 MiB (`max_request_body_size` of its
 -- confighttp) where it isn't told to take more

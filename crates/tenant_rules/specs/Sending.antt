@@ -1,7 +1,7 @@
 -- What is kept of a tenant's batches after its own steps, and where the spans of the others ended. At each step the
 -- batches that form by then are offered first, in order; then a worker's turn or a back end's answer acts
 -- (`sending_queue` of the Collector's exporterhelper; the order is this project's own rule).
-use Rattle.std.specs.Prelude.{ℕ, List, [], ◌∷◌, ◌++◌, map, length, drop, Option, Some, None, if◌then◌else◌}
+use Rattle.std.specs.Prelude.{ℕ, Bool, true, false, List, [], ◌∷◌, ◌++◌, map, length, drop, Option, Some, None, if◌then◌else◌}
 use Rattle.tail_settings.specs.Section.{SectionData}
 use Rattle.drop_ledger.specs.declared.places.Place.{Place}
 use Rattle.drop_ledger.specs.declared.places.Place.TheVariants.{Exported, QueueFull, RetryExhausted, BackEndRefused, BackEndRejected}
@@ -11,7 +11,7 @@ use Rattle.send_queue.specs.declared.settled.Settled.TheVariants.{Taken, Waits, 
 use Rattle.tenant_rules.specs.Own.{Own, Post, Turn, Answer, Report, Drain, Retire, clock, drained}
 use Rattle.tenant_rules.specs.Batching.{formed}
 use Rattle.tenant_rules.specs.Intake.{intake}
-use Rattle.tenant_rules.specs.Sender.{BatchData, ActiveData, SenderData, no_batches, finds_no_room, admitted, asked, fate, settled_by, in_flight, answered}
+use Rattle.tenant_rules.specs.Sender.{BatchData, ActiveData, SenderData, no_batches, unbounded, finds_no_room, admitted, asked, fate, settled_by, in_flight, answered}
 
 -- all batches that formed in a past, oldest first
 abbrev pub formed_by : SectionData → List Own → List BatchData
@@ -20,6 +20,15 @@ formed_by section past = formed section (clock past) (drained past) (intake sect
 -- those that form at a step, its due timers among what makes them
 abbrev pub newly_formed : SectionData → Own → List Own → List BatchData
 newly_formed section step past = drop (length (formed_by section past)) (formed_by section (step ∷ past))
+
+-- those of them that form by its moment, whether it acts or not
+abbrev pub due_formed : SectionData → Own → List Own → List BatchData
+due_formed section step past =
+    drop (length (formed_by section past)) (formed section (clock (step ∷ past)) (drained past) (intake section past).spans)
+
+-- and those that its act makes
+abbrev pub made_by : SectionData → Own → List Own → List BatchData
+made_by section step past = drop (length (due_formed section step past)) (newly_formed section step past)
 
 -- batches are offered, one after the other
 abbrev pub all_offered : List BatchData → SenderData → SenderData
@@ -41,9 +50,31 @@ acted moment (Report now) s = s
 acted moment (Drain now) s = s
 acted moment (Retire now) s = s
 
--- the sender just before a step acts
+-- whether a step drains a tenant that wasn't drained before
+abbrev pub closes : Own → Option ℕ → Bool
+closes (Post now arrivals) before = false
+closes (Turn now) before = false
+closes (Answer now ticket word answer) before = false
+closes (Report now) before = false
+closes (Drain now) None = true
+closes (Drain now) (Some moment) = false
+closes (Retire now) before = false
+
+-- the sender just before a step acts: those batches that a drain makes find a queue that bytes don't bound, since what
+-- a tenant holds would be lost else, however well its back end is
 abbrev pub before_acting : SectionData → Own → List Own → SenderData → SenderData
-before_acting section step past s = all_offered (newly_formed section step past) s
+before_acting section step past s =
+    if closes step (drained past) then
+    all_offered (made_by section step past) (unbounded (all_offered (due_formed section step past) s))
+    else all_offered (newly_formed section step past) s
+
+-- those that find no room
+abbrev pub left_over : SectionData → Own → List Own → SenderData → List BatchData
+left_over section step past s =
+    if closes step (drained past) then
+    overflow (due_formed section step past) s
+    ++ overflow (made_by section step past) (unbounded (all_offered (due_formed section step past) s))
+    else overflow (newly_formed section step past) s
 
 -- the sender after own steps
 unfoldable pub sender : SectionData → List Own → SenderData
@@ -89,4 +120,4 @@ unfoldable pub ended : SectionData → List Own → List EndedData
 ended section [] = []
 ended section (step ∷ past) =
     ended_at (clock (step ∷ past)) step (before_acting section step past (sender section past))
-    ++ (map met_no_room (overflow (newly_formed section step past) (sender section past)) ++ ended section past)
+    ++ (map met_no_room (left_over section step past (sender section past)) ++ ended section past)

@@ -28,7 +28,7 @@ take_back-requires c =
     let back = c.send_all.ensures.back own c.of-undo.ensures.back in
     record { ledger_invariant = subst (λ (l : LedgerData). ledger.LedgerInvariant l) (sym back.ledger) c.requires.holds.counted.sound }
 
-ended : (c : goal.After-drop-undo-in-Ok-2) → Ended c.args.moment c.args.self.now (record c.settle_rows.new.self { drained = true; unsent = c.send_all.new.leaving.unsent }) (part_in c.args.self.now c.args.stores.now) (part_in c.settle_rows.new.self c.flush.new.self)
+ended : (c : goal.After-drop-undo-in-Ok-2) → Ended c.args.moment c.args.self.now (record c.settle_rows.new.self { unsent = c.send_all.new.leaving.unsent }) (part_in c.args.self.now c.args.stores.now) (part_in c.settle_rows.new.self c.flush.new.self)
 ended c =
     let own = c.args.self.now in
     let mid = c.send_all.new.self in
@@ -38,7 +38,7 @@ ended c =
     let slice = ap (count key) c.as_slice.ensures.value in
     omega (arith, all, slice) in
     ends own mid c.settle_rows.new.self c.drain.new.self c.args.stores.now c.settle_rows.new.stores c.flush.new.self c.as_slice.result.now us c.args.moment
-    c.requires.holds c.requires.first c.in-Ok.ensures.on_success c.drain.ensures.pending c.in-Ok.ensures.behind c.settle_rows.ensures.only_decided keys c.settle_rows.ensures.store_invariant c.settle_rows.ensures.shows c.settle_rows.ensures.alike c.flush.ensures.store_invariant c.flush.ensures.shows
+    c.requires.holds c.requires.drained c.in-Ok.ensures.on_success c.drain.ensures.pending c.in-Ok.ensures.behind c.settle_rows.ensures.only_decided keys c.settle_rows.ensures.store_invariant c.settle_rows.ensures.shows c.settle_rows.ensures.alike c.flush.ensures.store_invariant c.flush.ensures.shows
 
 pub returns-in-Ok-clause-on_success : goal.returns-in-Ok-clause-on_success
 returns-in-Ok-clause-on_success c = (ended c).state
