@@ -138,7 +138,7 @@ def unit_runs(folder):
     variables = dict(word.partition("=")[::2] for line in lines_of(unit, "Environment") for word in line)
     check("the admin port", variables["ADMIN"], "127.0.0.1:9464")
     limits = [word for word in variables["OPTIONS"].split() if word.startswith("--")]
-    check("what is bounded", limits, ["--body-memory", "--client-timeout", "--request-timeout", "--back-end-timeout"])
+    check("what is bounded", limits, ["--body-memory", "--queue-bytes", "--client-timeout", "--request-timeout", "--back-end-timeout"])
     port = free_port()
     variables |= {"ADMIN": f"127.0.0.1:{free_port()}", "OPTIONS": variables["OPTIONS"] + " --connections 8"}
     with BackEnd() as back_end:
