@@ -482,11 +482,17 @@ unbounded_refuses_none b s most short =
     let light : payload_bytes s.queue + length b.payload ≤ s.sending.queue_bytes = omega (arith, one, two, all, most) in
     grind (arith, nat_tests, light))
 
+-- its settings are those that it began with
+section_is : (w : SectionData) (past : List Own) → (state w past).section ≡ w
+unfolding state
+section_is w past = refl
+
 pub unbounded_pasts_refuse_none : UnboundedPastsRefuseNone
 unbounded_pasts_refuse_none w some wait sound past most b =
     let within = pasts_stay_within w some wait sound past in
     let t = (state w past).sender in
     let size = within.queue_size_is in
     let bytes = within.queue_bytes_is in
-    let room : t.sending.queue_size * most_bytes ≤ t.sending.queue_bytes = omega (arith, size, bytes, most) in
+    let own = ap (λ (x : SectionData). x.sending_queue.queue_size) (section_is w past) in
+    let room : t.sending.queue_size * most_bytes ≤ t.sending.queue_bytes = omega (arith, size, bytes, own, most) in
     unbounded_refuses_none b t room within.queue_short
