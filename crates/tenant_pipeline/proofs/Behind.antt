@@ -15,7 +15,7 @@ use Rattle.tenant_stores.specs.View.{WaitingRow, waiting_rows}
 use Rattle.tenant_stores.specs.Counts.{range}
 use Rattle.tenant_rules.specs.Arrivals.{Arrival}
 use Rattle.tenant_rules.specs.Intake.{shutting_down}
-use Rattle.tenant_rules.specs.Machine.{drain, post_verdict, settled, turned, turned_by}
+use Rattle.tenant_rules.specs.Machine.{post_verdict, settled, turned, turned_by}
 use Rattle.tenant_rules.specs.Ready.{front_moment, lesser, next_decision, next_job, next_retry, ready}
 use Rattle.tenant_rules.specs.Sender.{ActiveData, BatchData, SenderData, Choice, Retried, Oldest, NoBatch, answered_by, choice, choice_by, due_by, first_retry, has_consumer, has_tickets, in_flight, oldest}
 use Rattle.tenant_rules.specs.State.{State}

@@ -41,7 +41,7 @@ use Rattle.tenant_pipeline.specs.Drains.{SendsRow, SendsRest, SendsAll}
 use Rattle.tenant_pipeline.specs.Invariant.{IsNoted, PipelineInvariantAt}
 use Rattle.tenant_pipeline.specs.StateIn.{arrivals_of, counts_in, policies_of, waiting_of, written_state_of}
 use Rattle.tenant_pipeline.specs.Outbox.{arrivals_at, pending_at, AreThere, Fits, HasRoom, Groups, Sends}
-use Rattle.tenant_pipeline.specs.Undo.{before, TakesBack}
+use Rattle.tenant_pipeline.specs.Undo.{TakesBack}
 use Rattle.tenant_pipeline.proofs.Ranges.{room_within}
 use Rattle.tenant_pipeline.proofs.Spans.{arrival_or, there_is, there-back}
 use Rattle.tenant_pipeline.proofs.Timing.{verdict_is}

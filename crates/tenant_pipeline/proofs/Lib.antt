@@ -8,7 +8,6 @@ pub mod Sweeping
 pub mod Spans
 pub mod Grouping
 pub mod Sending
-pub mod Unbound
 pub mod Undoing
 pub mod Timing
 pub mod Holding

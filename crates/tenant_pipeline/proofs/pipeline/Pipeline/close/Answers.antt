@@ -1,4 +1,4 @@
-use Rattle.std.proofs.Common.{◌≡◌, ◌∙◌, ◌+◌, ℕ, [], true, sym, ap, subst, arith}
+use Rattle.std.proofs.Common.{◌≡◌, ◌∙◌, ◌+◌, ℕ, [], sym, ap, subst, arith}
 use Rattle.drop_ledger.specs.Ledger.{LedgerData}
 use Rattle.drop_ledger.specs.Ledger as ledger
 use Rattle.span_batcher.specs.Maps.{spans_of}
