@@ -23,8 +23,8 @@ newly_formed section step past = drop (length (formed_by section past)) (formed_
 
 -- those of them that form by its moment, whether it acts or not
 abbrev pub due_formed : SectionData → Own → List Own → List BatchData
-due_formed section step past =
-    drop (length (formed_by section past)) (formed section (clock (step ∷ past)) (drained past) (intake section past).spans)
+due_formed section step past = drop (length (formed_by section past))
+    (formed section (clock (step ∷ past)) (drained past) (intake section past).spans)
 
 -- and those that its act makes
 abbrev pub made_by : SectionData → Own → List Own → List BatchData
