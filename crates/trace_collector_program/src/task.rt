@@ -52,8 +52,9 @@ Behind `serve SETTINGS`, in any order and each once at most:
   --body-memory BYTES    answers 503 to a post whose body has more than BYTES together with those
                          that other connections hold, 20971520 and more; else all are held
   --queue-bytes BYTES    drops a batch with which those of its tenant that wait to be sent for the
-                         first time would have more than BYTES together, 1 and more, unless a drain
-                         made it, and counts its spans in queue_full; else their number alone is bounded
+                         first time would have more than BYTES together, 1 and more, unless a
+                         drain made it, and counts its spans in queue_full; else their number
+                         alone is bounded
   --admin HOST:PORT      opens the admin port, which answers GET /, /metrics, /healthz, /readyz,
                          /tenants and /tenants/NAME, POST /tenants and /drain, DELETE /tenants/NAME;
                          then standard input isn't read, and POST /drain is its end
