@@ -17,7 +17,7 @@ use Rattle.otlp_canonical.specs.Status.{AreFields}
 use Rattle.otlp_canonical.proofs.Dropped.{front_walked}
 use Rattle.otlp_canonical.proofs.Gathered.{gathered_on, gather_unknown}
 use Rattle.otlp_canonical.proofs.Inside.{holding}
-use Rattle.otlp_canonical.proofs.Respelled.{Again, Unkeyed, ends, then_walked, spelled_is, next_before, keep_none, keyed, kept_on, again_on}
+use Rattle.otlp_canonical.proofs.Respelled.{Again, Unkeyed, ends, then_walked, spelled_is, next_before, keep_none, keyed, kept_on, again_on, value_behind}
 use Rattle.otlp_canonical.proofs.Sorted.{pieces_append, passed_on}
 
 -- ---- a value behind another
@@ -43,11 +43,6 @@ any_behind (suc room) e values later fields at =
     pieces_walked (any_step_in room) are no_value later
 
 -- the pair with what stands in all its values
-value_behind : (room : ℕ) (key later kept spelled : List ℕ) (r : Result AnyValueData ReadFault)
-    → ((r >>= λ v. Ok (key_value key v kept)) >>= λ p. key_value_step room p (holding 2 later) spelled) ≡ ((r >>= λ v. read_any room v later) >>= λ v. Ok (key_value key v kept))
-value_behind room key later kept spelled (Ok v) = refl
-value_behind room key later kept spelled (Err f) = refl
-
 value_more : (room e : ℕ) (key values later kept spelled : List ℕ) → AreFields e values → e ≡ 101 - room
     → (pair_of room key values true kept >>= λ p. key_value_step room p (holding 2 later) spelled) ≡ pair_of room key (values ++ later) true kept
 value_more room e key values later kept spelled fields at =

@@ -1,25 +1,31 @@
 -- A value's fields go by: which of its members counts, and what it doesn't know.
-use Rattle.std.proofs.Common.{◌≡◌, ℕ, Bool, true, false, not, is_some, ◌==◌, if◌then◌else◌, ◌-◌, ◌<◌, List, [], ◌++◌, Option, Some, None, unwrap_or, IfSome, Result, Ok, Err, refl, sym, ap, ◌∙◌, append_assoc, append-nil, arith}
+use Rattle.std.proofs.Common.{◌≡◌, ℕ, zero, suc, Bool, true, false, not, is_some, ◌==◌, ◌&&◌, ◌||◌, if◌then◌else◌, ◌-◌, ◌<◌, ◌^◌, length, List, [], ◌++◌, Option, Some, None, unwrap_or, IfSome, Result, Ok, Err, refl, sym, ap, subst, ◌∙◌, append_assoc, append-nil, arith}
 use Rattle.std.proofs.lemmas.Bool.{false≢true}
 use Rattle.std.proofs.lemmas.Bool.Decides.{nat_tests}
 use Rattle.std.specs.Str.{IsUtf8}
-use Rattle.pb_wire.specs.Grammar.{Entry, Datum, Varint, Eight, Bytes, Four, Group, IsField}
+use Rattle.pb_wire.specs.Grammar.{Entry, Datum, Varint, Eight, Bytes, Four, Group, IsField, varint_field, eight_field, bytes_field, four_field, group_field}
 use Rattle.pb_wire.specs.Reading.{next_at}
 use Rattle.otlp_trace.specs.Data.{AnyValueData, any_value, KindData, unset, string, boolean, int, double, array, kvlist, bytes, ArrayValueData, KeyValueListData}
 use Rattle.otlp_read.specs.declared.fault.ReadFault.{ReadFault}
-use Rattle.otlp_read.specs.AnyValue.{no_value, no_array, no_list, array_in, list_in, keep_any, any_step_in, read_array, read_list}
+use Rattle.otlp_trace.specs.Text.{any_text}
+use Rattle.otlp_read.specs.AnyValue.{no_value, no_array, no_list, array_in, list_in, keep_any, any_step_in, read_any, read_array, read_list}
 use Rattle.otlp_read.specs.Nested.{known_of_any}
 use Rattle.otlp_read.specs.Numbers.{utf8, int64, bool}
 use Rattle.otlp_read.specs.Walk.{◌>>=◌, before, walk}
 use Rattle.otlp_read.proofs.Leaves.{utf8_yes}
-use Rattle.otlp_read.proofs.Opened.{opened}
+use Rattle.otlp_read.proofs.Opened.{opened, opened_any}
+use Rattle.otlp_read.proofs.Taken.{Short}
+use Rattle.otlp_read.proofs.ValueBack.{any_back}
 use Rattle.otlp_read.proofs.Walks.{bind_same, turn_end}
-use Rattle.otlp_canonical.specs.Anew.{gather, member_of, GivesWay, IsMember, IsPutFor, IsValue, IsFirst}
+use Rattle.otlp_canonical.specs.Anew.{gather, member_of, merges, number_of, GivesPlace, GivesWay, IsMember, IsPutFor, IsValue, IsFirst, LeavesNothing}
 use Rattle.otlp_canonical.specs.Inner.{ReadAlike, PutFor}
+use Rattle.otlp_canonical.specs.Parts.{Whole}
+use Rattle.otlp_canonical.specs.Sound.{SoundAny}
 use Rattle.otlp_canonical.proofs.Dropped.{front_walked}
 use Rattle.otlp_canonical.proofs.Gathered.{gathered_on, gather_known, gather_unknown}
+use Rattle.otlp_canonical.proofs.Inside.{holding}
 use Rattle.otlp_canonical.proofs.Others.{none_of}
-use Rattle.otlp_canonical.proofs.Respelled.{ends, next_before, spelled_is, then_walked}
+use Rattle.otlp_canonical.proofs.Respelled.{any_spelled, ends, next_before, one_walked, spelled_is, then_walked}
 
 -- ---- a member that gives way to any that follows
 
@@ -32,72 +38,164 @@ none_follows kept = record { follows = λ j k is. absurd (false≢true is) }
 some_follows : (kept : List ℕ) (r s : Result AnyValueData ReadFault) → r ≡ (s >>= λ v. Ok (keep_any v kept)) → Follows kept (Some r) (Some s)
 some_follows kept r s same = record { follows = λ j k is. same }
 
-if_follows : (kept : List ℕ) (b : Bool) (o p others those : Option (Result AnyValueData ReadFault)) → Follows kept o p → Follows kept others those → Follows kept (if b then o else others) (if b then p else those)
-if_follows kept true o p others those first behind = first
+if_follows : (kept : List ℕ) (b : Bool) (o p others those : Option (Result AnyValueData ReadFault)) → (b ≡ true → Follows kept o p) → Follows kept others those → Follows kept (if b then o else others) (if b then p else those)
+if_follows kept true o p others those first behind = first refl
 if_follows kept false o p others those first behind = behind
 
 made_follows : {A : Type 0} (kept : List ℕ) (kind : A → KindData) (r : Result A ReadFault) → (r >>= λ x. Ok (any_value (kind x) kept)) ≡ ((r >>= λ x. Ok (any_value (kind x) [])) >>= λ v. Ok (keep_any v kept))
 made_follows kept kind (Ok x) = refl
 made_follows kept kind (Err f) = refl
 
-known_follows : (room : ℕ) (kind : KindData) (kept : List ℕ) → array_in kind ≡ no_array → list_in kind ≡ no_list → (n : ℕ) (value : Datum) → Follows kept (known_of_any room (any_value kind kept) n value) (known_of_any room no_value n value)
-known_follows room kind kept no_arrays no_lists n (Varint x) =
+known_follows : (room : ℕ) (kind : KindData) (kept : List ℕ) (n : ℕ) (value : Datum) → ((n == 5) ≡ true → array_in kind ≡ no_array) → ((n == 6) ≡ true → list_in kind ≡ no_list) → Follows kept (known_of_any room (any_value kind kept) n value) (known_of_any room no_value n value)
+known_follows room kind kept n (Varint x) no_arrays no_lists =
     if_follows kept (n == 2) (Some (Ok (any_value (boolean (bool x)) kept))) (Some (Ok (any_value (boolean (bool x)) []))) (if n == 3 then Some (Ok (any_value (int (int64 x)) kept)) else None) (if n == 3 then Some (Ok (any_value (int (int64 x)) [])) else None)
-    (some_follows kept (Ok (any_value (boolean (bool x)) kept)) (Ok (any_value (boolean (bool x)) [])) refl)
-    (if_follows kept (n == 3) (Some (Ok (any_value (int (int64 x)) kept))) (Some (Ok (any_value (int (int64 x)) []))) None None (some_follows kept (Ok (any_value (int (int64 x)) kept)) (Ok (any_value (int (int64 x)) [])) refl) (none_follows kept))
-known_follows room kind kept no_arrays no_lists n (Eight bs) =
-    if_follows kept (n == 4) (Some (Ok (any_value (double bs) kept))) (Some (Ok (any_value (double bs) []))) None None (some_follows kept (Ok (any_value (double bs) kept)) (Ok (any_value (double bs) [])) refl) (none_follows kept)
-known_follows room kind kept no_arrays no_lists n (Bytes bs) =
+    (λ e. some_follows kept (Ok (any_value (boolean (bool x)) kept)) (Ok (any_value (boolean (bool x)) [])) refl)
+    (if_follows kept (n == 3) (Some (Ok (any_value (int (int64 x)) kept))) (Some (Ok (any_value (int (int64 x)) []))) None None (λ e. some_follows kept (Ok (any_value (int (int64 x)) kept)) (Ok (any_value (int (int64 x)) [])) refl) (none_follows kept))
+known_follows room kind kept n (Eight bs) no_arrays no_lists =
+    if_follows kept (n == 4) (Some (Ok (any_value (double bs) kept))) (Some (Ok (any_value (double bs) []))) None None (λ e. some_follows kept (Ok (any_value (double bs) kept)) (Ok (any_value (double bs) [])) refl) (none_follows kept)
+known_follows room kind kept n (Bytes bs) no_arrays no_lists =
     let text : List ℕ → Result AnyValueData ReadFault = λ u. utf8 bs >>= λ t. Ok (any_value (string t) u) in
     let arrays : ArrayValueData → List ℕ → Result AnyValueData ReadFault = λ a u. read_array room a bs >>= λ b. Ok (any_value (array b) u) in
     let lists : KeyValueListData → List ℕ → Result AnyValueData ReadFault = λ l u. read_list room l bs >>= λ m. Ok (any_value (kvlist m) u) in
     let seven : Follows kept (if n == 7 then Some (Ok (any_value (bytes bs) kept)) else None) (if n == 7 then Some (Ok (any_value (bytes bs) [])) else None) =
-    if_follows kept (n == 7) (Some (Ok (any_value (bytes bs) kept))) (Some (Ok (any_value (bytes bs) []))) None None (some_follows kept (Ok (any_value (bytes bs) kept)) (Ok (any_value (bytes bs) [])) refl) (none_follows kept) in
+    if_follows kept (n == 7) (Some (Ok (any_value (bytes bs) kept))) (Some (Ok (any_value (bytes bs) []))) None None (λ e. some_follows kept (Ok (any_value (bytes bs) kept)) (Ok (any_value (bytes bs) [])) refl) (none_follows kept) in
     let six : Follows kept (if n == 6 then Some (lists (list_in kind) kept) else (if n == 7 then Some (Ok (any_value (bytes bs) kept)) else None)) (if n == 6 then Some (lists no_list []) else (if n == 7 then Some (Ok (any_value (bytes bs) [])) else None)) =
     if_follows kept (n == 6) (Some (lists (list_in kind) kept)) (Some (lists no_list [])) (if n == 7 then Some (Ok (any_value (bytes bs) kept)) else None) (if n == 7 then Some (Ok (any_value (bytes bs) [])) else None)
-    (some_follows kept (lists (list_in kind) kept) (lists no_list []) (ap (λ (l : KeyValueListData). lists l kept) no_lists ∙ made_follows kept kvlist (read_list room no_list bs))) seven in
+    (λ e. some_follows kept (lists (list_in kind) kept) (lists no_list []) (ap (λ (l : KeyValueListData). lists l kept) (no_lists e) ∙ made_follows kept kvlist (read_list room no_list bs))) seven in
     let five : Follows kept (if n == 5 then Some (arrays (array_in kind) kept) else (if n == 6 then Some (lists (list_in kind) kept) else (if n == 7 then Some (Ok (any_value (bytes bs) kept)) else None))) (if n == 5 then Some (arrays no_array []) else (if n == 6 then Some (lists no_list []) else (if n == 7 then Some (Ok (any_value (bytes bs) [])) else None))) =
     if_follows kept (n == 5) (Some (arrays (array_in kind) kept)) (Some (arrays no_array [])) (if n == 6 then Some (lists (list_in kind) kept) else (if n == 7 then Some (Ok (any_value (bytes bs) kept)) else None)) (if n == 6 then Some (lists no_list []) else (if n == 7 then Some (Ok (any_value (bytes bs) [])) else None))
-    (some_follows kept (arrays (array_in kind) kept) (arrays no_array []) (ap (λ (a : ArrayValueData). arrays a kept) no_arrays ∙ made_follows kept array (read_array room no_array bs))) six in
+    (λ e. some_follows kept (arrays (array_in kind) kept) (arrays no_array []) (ap (λ (a : ArrayValueData). arrays a kept) (no_arrays e) ∙ made_follows kept array (read_array room no_array bs))) six in
     if_follows kept (n == 1) (Some (text kept)) (Some (text [])) (if n == 5 then Some (arrays (array_in kind) kept) else (if n == 6 then Some (lists (list_in kind) kept) else (if n == 7 then Some (Ok (any_value (bytes bs) kept)) else None))) (if n == 5 then Some (arrays no_array []) else (if n == 6 then Some (lists no_list []) else (if n == 7 then Some (Ok (any_value (bytes bs) [])) else None)))
-    (some_follows kept (text kept) (text []) (made_follows kept string (utf8 bs))) five
-known_follows room kind kept no_arrays no_lists n (Four bs) = none_follows kept
-known_follows room kind kept no_arrays no_lists n (Group bs) = none_follows kept
+    (λ e. some_follows kept (text kept) (text []) (made_follows kept string (utf8 bs))) five
+known_follows room kind kept n (Four bs) no_arrays no_lists = none_follows kept
+known_follows room kind kept n (Group bs) no_arrays no_lists = none_follows kept
 
-replaced : (room : ℕ) (kept spelled : List ℕ) (member : Option Entry) (field : Entry) → GivesWay member → IsMember field
+left_off : (b c r : Bool) → ((b && c) || r) ≡ false → c ≡ true → b ≡ false
+left_off false c r e is = refl
+left_off true true r e is = e
+left_off true false r e is = absurd (false≢true is)
+
+right_off : (l b c : Bool) → (l || (b && c)) ≡ false → c ≡ true → b ≡ false
+right_off true b c e is = absurd (cc (e))
+right_off false false c e is = refl
+right_off false true true e is = e
+right_off false true false e is = absurd (false≢true is)
+
+replaced : (room : ℕ) (kept spelled : List ℕ) (member : Option Entry) (field : Entry) → GivesWay room member → merges (number_of member) field.number ≡ false → IsMember field
     → ((member_of room member >>= λ v. Ok (keep_any v kept)) >>= λ v. any_step_in room v field spelled) ≡ (member_of room (Some field) >>= λ v. Ok (keep_any v kept))
-replaced room kept spelled member field g known =
-    ap (λ (r : Result AnyValueData ReadFault). (r >>= λ v. Ok (keep_any v kept)) >>= λ v. any_step_in room v field spelled) (g.read room)
-    ∙ (known_follows room g.kind kept g.arrays g.lists field.number field.value).follows (Ok (keep_any (any_value g.kind kept) spelled)) (Ok (keep_any no_value [])) (known room no_value)
+replaced room kept spelled member field g apart known =
+    let m = number_of member in
+    let n = field.number in
+    let no_arrays : (n == 5) ≡ true → array_in g.kind ≡ no_array = λ e. g.arrays (left_off (m == 5) (n == 5) (m == 6 && n == 6) apart e) in
+    let no_lists : (n == 6) ≡ true → list_in g.kind ≡ no_list = λ e. g.lists (right_off (m == 5 && n == 5) (m == 6) (n == 6) apart e) in
+    ap (λ (r : Result AnyValueData ReadFault). (r >>= λ v. Ok (keep_any v kept)) >>= λ v. any_step_in room v field spelled) g.read
+    ∙ (known_follows room g.kind kept n field.value no_arrays no_lists).follows (Ok (keep_any (any_value g.kind kept) spelled)) (Ok (keep_any no_value [])) (known room no_value)
 
-pub none_gives : GivesWay None
-none_gives = record { kind = unset; read = λ room. refl; arrays = refl; lists = refl }
+pub none_gives : (room : ℕ) → GivesWay room None
+none_gives room = record { kind = unset; read = refl; arrays = λ e. refl; lists = λ e. refl }
 
-pub string_gives : (bs : List ℕ) → IsUtf8 bs → GivesWay (Some (record { number = 1; value = Bytes bs }))
-string_gives bs valid = record { kind = string bs; read = λ room. ap (λ (r : Result (List ℕ) ReadFault). r >>= λ t. Ok (any_value (string t) [])) (utf8_yes bs valid); arrays = refl; lists = refl }
+pub string_leaves : (bs : List ℕ) → IsUtf8 bs → LeavesNothing (holding 1 bs)
+string_leaves bs valid = record { known = λ room v. refl; kind = string bs; read = λ room. ap (λ (r : Result (List ℕ) ReadFault). r >>= λ t. Ok (any_value (string t) [])) (utf8_yes bs valid); arrays = refl; lists = refl }
 
-pub bytes_give : (bs : List ℕ) → GivesWay (Some (record { number = 7; value = Bytes bs }))
-bytes_give bs = record { kind = bytes bs; read = λ room. refl; arrays = refl; lists = refl }
+pub bytes_leave : (bs : List ℕ) → LeavesNothing (holding 7 bs)
+bytes_leave bs = record { known = λ room v. refl; kind = bytes bs; read = λ room. refl; arrays = refl; lists = refl }
 
-pub bool_gives : (x : ℕ) → GivesWay (Some (record { number = 2; value = Varint x }))
-bool_gives x = record { kind = boolean (bool x); read = λ room. refl; arrays = refl; lists = refl }
+pub bool_leaves : (x : ℕ) → LeavesNothing (record { number = 2; value = Varint x })
+bool_leaves x = record { known = λ room v. refl; kind = boolean (bool x); read = λ room. refl; arrays = refl; lists = refl }
 
-pub int_gives : (x : ℕ) → GivesWay (Some (record { number = 3; value = Varint x }))
-int_gives x = record { kind = int (int64 x); read = λ room. refl; arrays = refl; lists = refl }
+pub int_leaves : (x : ℕ) → LeavesNothing (record { number = 3; value = Varint x })
+int_leaves x = record { known = λ room v. refl; kind = int (int64 x); read = λ room. refl; arrays = refl; lists = refl }
 
-pub double_gives : (bs : List ℕ) → GivesWay (Some (record { number = 4; value = Eight bs }))
-double_gives bs = record { kind = double bs; read = λ room. refl; arrays = refl; lists = refl }
+pub double_leaves : (bs : List ℕ) → LeavesNothing (record { number = 4; value = Eight bs })
+double_leaves bs = record { known = λ room v. refl; kind = double bs; read = λ room. refl; arrays = refl; lists = refl }
+
+pub scalar_gives : (room : ℕ) (field : Entry) → LeavesNothing field → GivesWay room (Some field)
+scalar_gives room field l = record { kind = l.kind; read = l.read room; arrays = λ e. l.arrays; lists = λ e. l.lists }
+
+-- ---- a value that gives place to another
+
+-- a member is so spelled at any depth
+at_depth : {d e : ℕ} {front : List ℕ} {field : Entry} → IsMember field → IsField d front field → IsField e front field
+at_depth known (varint_field tag number) = varint_field tag number
+at_depth known (eight_field tag long) = eight_field tag long
+at_depth known (bytes_field tag size) = bytes_field tag size
+at_depth known (four_field tag long) = four_field tag long
+at_depth known (group_field deep tag inside end) = absurd (false≢true (known 0 no_value))
+
+kept_nothing : (r : Result AnyValueData ReadFault) → (r >>= λ v. Ok (keep_any v [])) ≡ r
+kept_nothing (Ok (any_value kind unknown)) = ap (λ (u : List ℕ). Ok (any_value kind u)) (append-nil unknown)
+kept_nothing (Err f) = refl
+
+-- it makes of what was left what it makes of nothing
+afresh : (room : ℕ) (kind : KindData) (field : Entry) (spelled : List ℕ) → array_in kind ≡ no_array → list_in kind ≡ no_list → IsMember field → any_step_in room (any_value kind []) field spelled ≡ any_step_in room no_value field spelled
+afresh room kind field spelled no_arrays no_lists known =
+    (known_follows room kind [] field.number field.value (λ e. no_arrays) (λ e. no_lists)).follows (Ok (keep_any (any_value kind []) spelled)) (Ok (keep_any no_value spelled)) (known room no_value)
+    ∙ kept_nothing (any_step_in room no_value field spelled)
+
+taken_place : (d room : ℕ) (value later others : List ℕ) (member next : Entry) → LeavesNothing member → IsMember next → next_at d value ≡ Ok (Some (member, [])) → next_at d later ≡ Ok (Some (next, others))
+    → (read_any room no_value value >>= λ v. read_any room v later) ≡ read_any room no_value later
+unfolding read_any
+taken_place d zero value later others member next leaves next_known found follows = refl
+taken_place d (suc room) value later others member next leaves next_known found follows =
+    let step = any_step_in room in
+    let e = 100 - room in
+    let all : value ≡ before value [] = next_before d value [] member found ∙ append-nil (before value []) in
+    let first : IsField e value member = subst (λ (t : List ℕ). IsField e t member) (sym all) (at_depth leaves.known (spelled_is d value [] member found)) in
+    let front = before later others in
+    let second : IsField e front next = at_depth next_known (spelled_is d later others next follows) in
+    let is : later ≡ front ++ others = next_before d later others next follows in
+    let read : walk step e no_value value ≡ Ok (any_value leaves.kind []) = one_walked step e no_value value member first ∙ any_spelled room member leaves.known no_value value [] ∙ leaves.read room in
+    let behind : walk step e (any_value leaves.kind []) later ≡ walk step e no_value later =
+    ap (walk step e (any_value leaves.kind [])) is ∙ front_walked step e (any_value leaves.kind []) front others next second
+    ∙ ap (λ (r : Result AnyValueData ReadFault). r >>= λ v. walk step e v others) (afresh room leaves.kind next front leaves.arrays leaves.lists next_known)
+    ∙ sym (front_walked step e no_value front others next second) ∙ ap (walk step e no_value) (sym is) in
+    ap (λ (r : Result AnyValueData ReadFault). r >>= λ v. walk step e v later) read ∙ behind
+
+pub place_given : (d : ℕ) (value later rest others : List ℕ) (member next : Entry) → LeavesNothing member → IsMember next → next_at d value ≡ Ok (Some (member, rest)) → rest ≡ [] → next_at d later ≡ Ok (Some (next, others)) → GivesPlace value later
+place_given d value later rest others member next leaves next_known found none follows = record {
+  same = λ room. taken_place d room value later others member next leaves next_known (subst (λ (t : List ℕ). next_at d value ≡ Ok (Some (member, t))) none found) follows;
+}
+
+-- ---- an array or a list that is read
+
+array_read : (room : ℕ) (bs : List ℕ) (r : Result ArrayValueData ReadFault) (v : AnyValueData) → read_array room no_array bs ≡ r → (r >>= λ a. Ok (any_value (array a) [])) ≡ Ok v → GivesWay room (Some (holding 5 bs))
+array_read room bs (Ok a) v is made = record { kind = array a; read = ap (λ (r : Result ArrayValueData ReadFault). r >>= λ b. Ok (any_value (array b) [])) is; arrays = λ e. absurd (cc (e)); lists = λ e. refl }
+array_read room bs (Err f) v is made = absurd (cc (made))
+
+list_read : (room : ℕ) (bs : List ℕ) (r : Result KeyValueListData ReadFault) (v : AnyValueData) → read_list room no_list bs ≡ r → (r >>= λ l. Ok (any_value (kvlist l) [])) ≡ Ok v → GivesWay room (Some (holding 6 bs))
+list_read room bs (Ok l) v is made = record { kind = kvlist l; read = ap (λ (r : Result KeyValueListData ReadFault). r >>= λ m. Ok (any_value (kvlist m) [])) is; arrays = λ e. refl; lists = λ e. absurd (cc (e)) }
+list_read room bs (Err f) v is made = absurd (cc (made))
+
+-- a value's field whose text is canonical by itself
+pub alone_read : (room : ℕ) (spelled : List ℕ) (field : Entry) → 0 < room → length spelled < 2 ^ 64 → IsField (101 - room) spelled field → (w : Whole any_text (SoundAny room) spelled) → any_step_in (room - 1) no_value field spelled ≡ Ok w.value
+alone_read room spelled field some short first w =
+    let fits : Short (any_text w.value) = subst Short w.same short in
+    sym (one_walked (any_step_in (room - 1)) (101 - room) no_value spelled field first) ∙ sym (opened_any room no_value spelled some) ∙ ap (read_any room no_value) w.same ∙ any_back room w.value w.sound.typed w.sound.nested fits
+
+pub array_gives : (room : ℕ) (spelled bs : List ℕ) → 0 < room → length spelled < 2 ^ 64 → IsField (101 - room) spelled (holding 5 bs) → Whole any_text (SoundAny room) spelled → GivesWay (room - 1) (Some (holding 5 bs))
+array_gives room spelled bs some short first w = array_read (room - 1) bs (read_array (room - 1) no_array bs) w.value refl (alone_read room spelled (holding 5 bs) some short first w)
+
+pub list_gives : (room : ℕ) (spelled bs : List ℕ) → 0 < room → length spelled < 2 ^ 64 → IsField (101 - room) spelled (holding 6 bs) → Whole any_text (SoundAny room) spelled → GivesWay (room - 1) (Some (holding 6 bs))
+list_gives room spelled bs some short first w = list_read (room - 1) bs (read_list (room - 1) no_list bs) w.value refl (alone_read room spelled (holding 6 bs) some short first w)
 
 -- ---- a member that is put for another
 
 pub same_put : (field : Entry) → IsPutFor field field
-same_put field = record { known = λ m. m; read = λ room. refl }
+same_put field = record { number = refl; known = λ m. m; read = λ room. refl }
 
 -- a bool that isn't 0 is read as 1
 pub one_put : (x : ℕ) → 1 < x → IsPutFor (record { number = 2; value = Varint 1 }) (record { number = 2; value = Varint x })
 one_put x some =
     let off : (x == 0) ≡ false = grind (arith, nat_tests) in
-    record { known = λ m room v. refl; read = λ room. ap (λ (b : Bool). Ok (any_value (boolean (not b)) [])) off }
+    record { number = refl; known = λ m room v. refl; read = λ room. ap (λ (b : Bool). Ok (any_value (boolean (not b)) [])) off }
+
+pub gives_as : (room : ℕ) (put member : Entry) → IsPutFor put member → GivesWay room (Some member) → GivesWay room (Some put)
+gives_as room put member same g = record {
+  kind = g.kind;
+  read = sym (same.read room) ∙ g.read;
+  arrays = λ e. g.arrays (ap (λ (n : ℕ). n == 5) (sym same.number) ∙ e);
+  lists = λ e. g.lists (ap (λ (n : ℕ). n == 6) (sym same.number) ∙ e);
+}
 
 -- ---- the fields that went by
 
@@ -105,7 +203,7 @@ one_put x some =
 abbrev pub Again : ℕ → List ℕ → Type 0
 Again d kept = (room : ℕ) (v : AnyValueData) (rest : List ℕ) → walk (any_step_in room) d v (kept ++ rest) ≡ walk (any_step_in room) d (keep_any v kept) rest
 
-pub record Choosing (d : ℕ) (text left : List ℕ) (member : Option Entry) (size : ℕ) : Type 0 where
+pub record Choosing (room d : ℕ) (text left : List ℕ) (member : Option Entry) (gives : Bool) (size : ℕ) : Type 0 where
   pub gone : List ℕ
   pub parts : text ≡ gone ++ left
   pub kept : List ℕ
@@ -113,7 +211,8 @@ pub record Choosing (d : ℕ) (text left : List ℕ) (member : Option Entry) (si
   pub gathered : (rest : List ℕ) → walk (gather known_of_any no_value) d [] (gone ++ rest) ≡ walk (gather known_of_any no_value) d kept rest
   pub again : Again d kept
   pub known : IfSome member IsMember
-  pub so_far : (room : ℕ) (rest : List ℕ) → walk (any_step_in room) d no_value (gone ++ rest) ≡ ((member_of room member >>= λ v. Ok (keep_any v kept)) >>= λ v. walk (any_step_in room) d v rest)
+  pub way : gives ≡ true → GivesWay room member
+  pub so_far : (rest : List ℕ) → walk (any_step_in room) d no_value (gone ++ rest) ≡ ((member_of room member >>= λ v. Ok (keep_any v kept)) >>= λ v. walk (any_step_in room) d v rest)
 
 keep_none : (v : AnyValueData) → keep_any v [] ≡ v
 keep_none (any_value kind unknown) = ap (λ (u : List ℕ). any_value kind u) (append-nil unknown)
@@ -121,23 +220,24 @@ keep_none (any_value kind unknown) = ap (λ (u : List ℕ). any_value kind u) (a
 keep_both : (v : AnyValueData) (kept more : List ℕ) → keep_any (keep_any v kept) more ≡ keep_any v (kept ++ more)
 keep_both (any_value kind unknown) kept more = ap (λ (u : List ℕ). any_value kind u) (append_assoc unknown kept more)
 
-pub none_chosen : (d : ℕ) (text : List ℕ) → Choosing d text text None 0
-none_chosen d text = record {
+pub none_chosen : (room d : ℕ) (text : List ℕ) → Choosing room d text text None true 0
+none_chosen room d text = record {
   gone = [];
   parts = refl;
   kept = [];
   none = λ e. refl;
   gathered = λ rest. refl;
-  again = λ room v rest. ap (λ (w : AnyValueData). walk (any_step_in room) d w rest) (sym (keep_none v));
+  again = λ inner v rest. ap (λ (w : AnyValueData). walk (any_step_in inner) d w rest) (sym (keep_none v));
   known = tt;
-  so_far = λ room rest. refl;
+  way = λ e. none_gives room;
+  so_far = λ rest. refl;
 }
 
-one_chosen : (d : ℕ) (text left rest more : List ℕ) (member later : Option Entry) (size larger : ℕ) (field : Entry) → next_at d left ≡ Ok (Some (field, rest)) → (larger ≡ 0 → more ≡ []) → Again d more → IfSome later IsMember
-    → (p : Choosing d text left member size) → gather known_of_any no_value p.kept field (before left rest) ≡ Ok more
-    → ((room : ℕ) → ((member_of room member >>= λ v. Ok (keep_any v p.kept)) >>= λ v. any_step_in room v field (before left rest)) ≡ (member_of room later >>= λ v. Ok (keep_any v more)))
-    → Choosing d text rest later larger
-one_chosen d text left rest more member later size larger field found none again known p gathers same =
+one_chosen : (room d : ℕ) (text left rest more : List ℕ) (member later : Option Entry) (gives now : Bool) (size larger : ℕ) (field : Entry) → next_at d left ≡ Ok (Some (field, rest)) → (larger ≡ 0 → more ≡ []) → Again d more → IfSome later IsMember
+    → (now ≡ true → GivesWay room later) → (p : Choosing room d text left member gives size) → gather known_of_any no_value p.kept field (before left rest) ≡ Ok more
+    → ((member_of room member >>= λ v. Ok (keep_any v p.kept)) >>= λ v. any_step_in room v field (before left rest)) ≡ (member_of room later >>= λ v. Ok (keep_any v more))
+    → Choosing room d text rest later now larger
+one_chosen room d text left rest more member later gives now size larger field found none again known way p gathers same =
     let front = before left rest in
     let first : IsField d front field = spelled_is d left rest field found in
     let is : left ≡ front ++ rest = next_before d left rest field found in
@@ -149,20 +249,22 @@ one_chosen d text left rest more member later size larger field found none again
       gathered = gathered_on known_of_any no_value d p.gone front p.kept more field first gathers p.gathered;
       again = again;
       known = known;
-      so_far = λ room behind.
-          ap (walk (any_step_in room) d no_value) (append_assoc p.gone front behind) ∙ p.so_far room (front ++ behind)
+      way = way;
+      so_far = λ behind.
+          ap (walk (any_step_in room) d no_value) (append_assoc p.gone front behind) ∙ p.so_far (front ++ behind)
           ∙ then_walked (any_step_in room) d (member_of room member >>= λ v. Ok (keep_any v p.kept)) front behind field first
-          ∙ ap (λ (r : Result AnyValueData ReadFault). r >>= λ v. walk (any_step_in room) d v behind) (same room);
+          ∙ ap (λ (r : Result AnyValueData ReadFault). r >>= λ v. walk (any_step_in room) d v behind) same;
     }
 
-pub member_chosen : (d : ℕ) (text left rest : List ℕ) (member : Option Entry) (size : ℕ) (field : Entry) → next_at d left ≡ Ok (Some (field, rest)) → GivesWay member → IsMember field → Choosing d text left member size
-    → Choosing d text rest (Some field) size
-member_chosen d text left rest member size field found gives known p =
-    one_chosen d text left rest p.kept member (Some field) size size field found p.none p.again known p (gather_known known_of_any no_value p.kept (before left rest) field (known 0 no_value)) (λ room. replaced room p.kept (before left rest) member field gives known)
+pub member_chosen : (room d : ℕ) (text left rest : List ℕ) (member : Option Entry) (gives now : Bool) (size : ℕ) (field : Entry) → next_at d left ≡ Ok (Some (field, rest)) → gives ≡ true → merges (number_of member) field.number ≡ false → IsMember field
+    → (now ≡ true → GivesWay room (Some field)) → Choosing room d text left member gives size → Choosing room d text rest (Some field) now size
+member_chosen room d text left rest member gives now size field found is apart known way p =
+    one_chosen room d text left rest p.kept member (Some field) gives now size size field found p.none p.again known way p (gather_known known_of_any no_value p.kept (before left rest) field (known 0 no_value))
+    (replaced room p.kept (before left rest) member field (p.way is) apart known)
 
 -- the same with what is put for the member
-pub chosen_as : (d : ℕ) (text left : List ℕ) (field put : Entry) (size : ℕ) → IsPutFor put field → Choosing d text left (Some field) size → Choosing d text left (Some put) size
-chosen_as d text left field put size same p = record {
+pub chosen_as : (room d : ℕ) (text left : List ℕ) (field put : Entry) (gives : Bool) (size : ℕ) → IsPutFor put field → Choosing room d text left (Some field) gives size → Choosing room d text left (Some put) gives size
+chosen_as room d text left field put gives size same p = record {
   gone = p.gone;
   parts = p.parts;
   kept = p.kept;
@@ -170,7 +272,8 @@ chosen_as d text left field put size same p = record {
   gathered = p.gathered;
   again = p.again;
   known = same.known p.known;
-  so_far = λ room rest. p.so_far room rest ∙ ap (λ (r : Result AnyValueData ReadFault). (r >>= λ v. Ok (keep_any v p.kept)) >>= λ v. walk (any_step_in room) d v rest) (same.read room);
+  way = λ e. gives_as room put field same (p.way e);
+  so_far = λ rest. p.so_far rest ∙ ap (λ (r : Result AnyValueData ReadFault). (r >>= λ v. Ok (keep_any v p.kept)) >>= λ v. walk (any_step_in room) d v rest) (same.read room);
 }
 
 -- a field that a value doesn't know
@@ -190,14 +293,14 @@ again_on d kept front field first unknown again room v rest =
     ap (walk step d v) (append_assoc kept front rest) ∙ again room v (front ++ rest) ∙ front_walked step d (keep_any v kept) front rest field first
     ∙ ap (λ (r : Result AnyValueData ReadFault). r >>= λ w. walk step d w rest) (keeps room (keep_any v kept) field front unknown) ∙ ap (λ (w : AnyValueData). walk step d w rest) (keep_both v kept front)
 
-pub unknown_chosen : (d : ℕ) (text left rest : List ℕ) (member : Option Entry) (size larger : ℕ) (field : Entry) → next_at d left ≡ Ok (Some (field, rest)) → Unchosen field → 0 < larger → Choosing d text left member size
-    → Choosing d text rest member larger
-unknown_chosen d text left rest member size larger field found unknown some p =
-    one_chosen d text left rest (p.kept ++ before left rest) member member size larger field found (λ e. absurd (omega (arith, e, some))) (again_on d p.kept (before left rest) field (spelled_is d left rest field found) unknown p.again) p.known p
-    (gather_unknown known_of_any no_value p.kept (before left rest) field (unknown 0 no_value)) (λ room. kept_on room p.kept (before left rest) field (member_of room member) unknown)
+pub unknown_chosen : (room d : ℕ) (text left rest : List ℕ) (member : Option Entry) (gives : Bool) (size larger : ℕ) (field : Entry) → next_at d left ≡ Ok (Some (field, rest)) → Unchosen field → 0 < larger → Choosing room d text left member gives size
+    → Choosing room d text rest member gives larger
+unknown_chosen room d text left rest member gives size larger field found unknown some p =
+    one_chosen room d text left rest (p.kept ++ before left rest) member member gives gives size larger field found (λ e. absurd (omega (arith, e, some))) (again_on d p.kept (before left rest) field (spelled_is d left rest field found) unknown p.again) p.known p.way p
+    (gather_unknown known_of_any no_value p.kept (before left rest) field (unknown 0 no_value)) (kept_on room p.kept (before left rest) field (member_of room member) unknown)
 
-pub all_chosen : (d : ℕ) (text left : List ℕ) (member : Option Entry) (size : ℕ) → left ≡ [] → Choosing d text left member size → IsValue d text member size
-all_chosen d text left member size none p =
+pub all_chosen : (room d : ℕ) (text left : List ℕ) (member : Option Entry) (gives : Bool) (size : ℕ) → left ≡ [] → Choosing room d text left member gives size → IsValue room d text member size
+all_chosen room d text left member gives size none p =
     let gone : text ≡ p.gone ++ [] = p.parts ∙ ap (λ (t : List ℕ). p.gone ++ t) none in
     record {
       kept = p.kept;
@@ -205,7 +308,7 @@ all_chosen d text left member size none p =
       gathered = ap (walk (gather known_of_any no_value) d []) gone ∙ p.gathered [] ∙ turn_end (gather known_of_any no_value) d p.kept [] refl;
       again = p.again;
       known = p.known;
-      read = λ room. ap (walk (any_step_in room) d no_value) gone ∙ p.so_far room [] ∙ ends (any_step_in room) d (member_of room member >>= λ v. Ok (keep_any v p.kept));
+      read = ap (walk (any_step_in room) d no_value) gone ∙ p.so_far [] ∙ ends (any_step_in room) d (member_of room member >>= λ v. Ok (keep_any v p.kept));
     }
 
 -- ---- a value is put
@@ -214,17 +317,17 @@ kept_walked : (inner d : ℕ) (kept : List ℕ) (v : AnyValueData) → Again d k
 kept_walked inner d kept v again = ap (walk (any_step_in inner) d v) (sym (append-nil kept)) ∙ again inner v [] ∙ turn_end (any_step_in inner) d (keep_any v kept) [] refl
 
 -- of no member
-pub bare_alike : (room size : ℕ) (text old new : List ℕ) → 0 < room → (p : IsValue (101 - room) text None size) → new ≡ old ++ p.kept → ReadAlike any_step_in no_value room text old new
+pub bare_alike : (room size : ℕ) (text old new : List ℕ) → 0 < room → (p : IsValue (room - 1) (101 - room) text None size) → new ≡ old ++ p.kept → ReadAlike any_step_in no_value room text old new
 bare_alike room size text old new some p is = record {
   put = p.kept;
   copied = is;
   same =
-      opened any_step_in room no_value text some ∙ p.read (room - 1) ∙ sym (kept_walked (room - 1) (101 - room) p.kept no_value p.again)
+      opened any_step_in room no_value text some ∙ p.read ∙ sym (kept_walked (room - 1) (101 - room) p.kept no_value p.again)
       ∙ sym (opened any_step_in room no_value p.kept some);
 }
 
 -- of one
-pub member_alike : (room size : ℕ) (text old valued new : List ℕ) (field : Entry) → 0 < room → (p : IsValue (101 - room) text (Some field) size) → PutFor any_step_in IsFirst (room - 1) (101 - room) 0 field old valued → new ≡ valued ++ p.kept
+pub member_alike : (room size : ℕ) (text old valued new : List ℕ) (field : Entry) → 0 < room → (p : IsValue (room - 1) (101 - room) text (Some field) size) → PutFor any_step_in IsFirst (room - 1) (101 - room) 0 field old valued → new ≡ valued ++ p.kept
     → ReadAlike any_step_in no_value room text old new
 member_alike room size text old valued new field some p q is =
     let step = any_step_in (room - 1) in
@@ -233,7 +336,7 @@ member_alike room size text old valued new field some p q is =
       put = q.put ++ p.kept;
       copied = is ∙ ap (λ (t : List ℕ). t ++ p.kept) q.copied ∙ append_assoc old q.put p.kept;
       same =
-          opened any_step_in room no_value text some ∙ p.read (room - 1)
+          opened any_step_in room no_value text some ∙ p.read
           ∙ sym (bind_same (step no_value field []) (λ v. walk step d v p.kept) (λ v. Ok (keep_any v p.kept)) (λ v. kept_walked (room - 1) d p.kept v p.again))
           ∙ sym (q.alike no_value [] p.kept refl) ∙ sym (opened any_step_in room no_value (q.put ++ p.kept) some);
     }

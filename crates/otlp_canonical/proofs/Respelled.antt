@@ -22,7 +22,7 @@ use Rattle.otlp_read.proofs.Leaves.{utf8_yes}
 use Rattle.otlp_read.proofs.Opened.{opened, attribute_read}
 use Rattle.otlp_read.proofs.Taken.{Taken, Short, some_string_taken}
 use Rattle.otlp_read.proofs.Walks.{before_rest, turn_end}
-use Rattle.otlp_canonical.specs.Anew.{Spelled, gather, pair_of, IsPair, IsPairIn, IsFirst}
+use Rattle.otlp_canonical.specs.Anew.{Spelled, gather, pair_of, GivesPlace, IsPair, IsPairIn, IsFirst}
 use Rattle.otlp_canonical.specs.Inner.{DefaultLaws, ReadAlike, FieldAlike, PutFor}
 use Rattle.otlp_canonical.proofs.Dropped.{Going, going_put, going_same, front_walked}
 use Rattle.otlp_canonical.proofs.Gathered.{gathered_on, gather_unknown}
@@ -269,6 +269,17 @@ key_paired d text left rest key value later has size found valid p =
 
 pub value_paired : (d : ℕ) (text left rest key value later : List ℕ) (size : ℕ) → next_at d left ≡ Ok (Some (holding 2 later, rest)) → Pairing d text left key value false size → Pairing d text rest key later true size
 value_paired d text left rest key value later size found p = one_paired d text left rest key value key later p.kept false true size size (holding 2 later) found p.valid p.none p.again p refl (λ room. refl)
+
+pub value_behind : (room : ℕ) (key later kept spelled : List ℕ) (r : Result AnyValueData ReadFault)
+    → ((r >>= λ v. Ok (key_value key v kept)) >>= λ p. key_value_step room p (holding 2 later) spelled) ≡ ((r >>= λ v. read_any room v later) >>= λ v. Ok (key_value key v kept))
+value_behind room key later kept spelled (Ok v) = refl
+value_behind room key later kept spelled (Err f) = refl
+
+-- one value in the place of another
+pub place_paired : (d : ℕ) (text left rest key value later : List ℕ) (size : ℕ) → next_at d left ≡ Ok (Some (holding 2 later, rest)) → GivesPlace value later → Pairing d text left key value true size → Pairing d text rest key later true size
+place_paired d text left rest key value later size found given p =
+    one_paired d text left rest key value key later p.kept true true size size (holding 2 later) found p.valid p.none p.again p refl
+    (λ room. value_behind room key later p.kept (before left rest) (read_any room no_value value) ∙ ap (λ (r : Result AnyValueData ReadFault). r >>= λ v. Ok (key_value key v p.kept)) (given.same room))
 
 -- a field that an attribute doesn't know
 abbrev pub Unkeyed : Entry → Type 0

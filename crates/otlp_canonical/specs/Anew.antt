@@ -1,7 +1,7 @@
 -- Fields and attributes that are put anew, with all lengths as short as they can be (the Protocol Buffers encoding
 -- guide, "Message Structure"; of a field that stands twice the last one wins, "Last One Wins", and of the members of a
 -- oneof, the proto3 language guide, "Oneof").
-use Rattle.std.specs.Prelude.{◌≡◌, ◌-◌, ◌<◌, ℕ, Bool, true, false, if◌then◌else◌, List, [], ◌++◌, Option, Some, None, IfSome, option_map, Result, Ok, is_some}
+use Rattle.std.specs.Prelude.{◌≡◌, ◌==◌, ◌-◌, ◌<◌, ◌&&◌, ◌||◌, ℕ, Bool, true, false, if◌then◌else◌, List, [], ◌++◌, Option, Some, None, IfSome, option_map, Result, Ok, is_some}
 use Rattle.std.specs.Str.{IsUtf8}
 use Rattle.pb_wire.specs.Grammar.{Entry, Datum, Bytes, IsField, entry}
 use Rattle.otlp_trace.specs.Data.{AnyValueData, any_value, KindData, KeyValueData, bare_key, key_value, SpanData}
@@ -73,34 +73,58 @@ abbrev pub member_of : ℕ → Option Entry → Result AnyValueData ReadFault
 member_of room None = Ok no_value
 member_of room (Some field) = any_step_in room no_value field []
 
+-- the number of a value's member, or none
+abbrev pub number_of : Option Entry → ℕ
+number_of None = 0
+number_of (Some field) = field.number
+
+-- a member of the first number is merged with one of the second that follows: an array with an array, a list with a
+-- list
+abbrev pub merges : ℕ → ℕ → Bool
+merges m n = (m == 5 && n == 5) || (m == 6 && n == 6)
+
 -- one member may be put for the other: it is a member where that is one, and both are read as the same
 pub record IsPutFor (put member : Entry) : Type 0 where
+  pub number : put.number ≡ member.number
   pub known : IsMember member → IsMember put
   pub read : (room : ℕ) → member_of room (Some member) ≡ member_of room (Some put)
 
 -- the member can be read, and leaves nothing to one that follows
-pub record GivesWay (member : Option Entry) : Type 0 where
+pub record LeavesNothing (member : Entry) : Type 0 where
+  pub known : IsMember member
   pub kind : KindData
-  pub read : (room : ℕ) → member_of room member ≡ Ok (any_value kind [])
+  pub read : (room : ℕ) → member_of room (Some member) ≡ Ok (any_value kind [])
   pub arrays : array_in kind ≡ no_array
   pub lists : list_in kind ≡ no_list
 
--- It makes that of a value's text, whose fields that aren't known are kept as a pair's are.
-pub record IsValue (d : ℕ) (text : List ℕ) (member : Option Entry) (size : ℕ) : Type 0 where
+-- behind the one value's text in one value, the other's is read as it is by itself
+pub record GivesPlace (value later : List ℕ) : Type 0 where
+  pub same : (room : ℕ) → (read_any room no_value value >>= λ v. read_any room v later) ≡ read_any room no_value later
+
+-- with room for so many levels inside the value, the member can be read, and leaves nothing to one that follows, unless
+-- that is merged with it
+pub record GivesWay (room : ℕ) (member : Option Entry) : Type 0 where
+  pub kind : KindData
+  pub read : member_of room member ≡ Ok (any_value kind [])
+  pub arrays : (number_of member == 5) ≡ false → array_in kind ≡ no_array
+  pub lists : (number_of member == 6) ≡ false → list_in kind ≡ no_list
+
+-- With room for so many levels inside the value, it makes that of a value's text, whose fields that aren't known are
+-- kept as a pair's are.
+pub record IsValue (room d : ℕ) (text : List ℕ) (member : Option Entry) (size : ℕ) : Type 0 where
   pub kept : List ℕ
   pub none : size ≡ 0 → kept ≡ []
   pub gathered : walk (gather known_of_any no_value) d [] text ≡ Ok kept
-  pub again : (room : ℕ) (v : AnyValueData) (rest : List ℕ) → walk (any_step_in room) d v (kept ++ rest)
-      ≡ walk (any_step_in room) d (keep_any v kept) rest
+  pub again : (inner : ℕ) (v : AnyValueData) (rest : List ℕ) → walk (any_step_in inner) d v (kept ++ rest)
+      ≡ walk (any_step_in inner) d (keep_any v kept) rest
   pub known : IfSome member IsMember
-  pub read : (room : ℕ) → walk (any_step_in room) d no_value text
-      ≡ (member_of room member >>= λ v. Ok (keep_any v kept))
+  pub read : walk (any_step_in room) d no_value text ≡ (member_of room member >>= λ v. Ok (keep_any v kept))
 
 -- these are the parts of an attribute's text
 pub record HasParts (room : ℕ) (text : List ℕ) (parts : Parts) : Type 0 where
   pub some : 0 < room
   pub pair : IsPair (101 - room) text parts.pair.key.now parts.pair.value.now parts.pair.has_value parts.pair.unknown
-  pub value : IsValue (101 - (room - 1)) parts.pair.value.now (option_map entry parts.chosen.member)
+  pub value : IsValue (room - 1 - 1) (101 - (room - 1)) parts.pair.value.now (option_map entry parts.chosen.member)
       parts.chosen.unknown
 
 -- what a field of wire type `LEN` holds

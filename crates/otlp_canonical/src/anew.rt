@@ -3,16 +3,17 @@
 //! wins. Fields that aren't known may stand anywhere.
 
 ghost use Rattle.std.specs.Prelude.{◌≡◌, ◌-◌, ◌<◌, ℕ, List, [], ◌++◌, true, false, Some, Ok, option_map, IfOk, IfSome};
-ghost use Rattle.pb_wire.specs.Grammar.{entry};
+ghost use Rattle.pb_wire.specs.Grammar.{entry, IsField};
 ghost use Rattle.otlp_read.specs.AnyValue.{no_value, no_array, no_list, no_key_value, any_step_in, array_step_in, list_step_in, key_value_step};
 ghost use Rattle.otlp_read.specs.Walk.{walk};
-ghost use Rattle.otlp_canonical.specs.Anew.{gather, GivesWay, HasParts, IsFirst, IsMember, IsPair, IsPairIn, IsPutFor, IsValue, Spelled};
+ghost use Rattle.otlp_canonical.specs.Anew.{gather, merges, number_of, GivesPlace, GivesWay, HasParts, IsFirst, IsMember, IsPair, IsPairIn, IsPutFor, IsValue, LeavesNothing, Spelled};
 ghost use Rattle.otlp_canonical.specs.Inner.{ReadAlike, FieldAlike, PutFor};
 
 use crate::attribute::{field_size, varint_size};
 use crate::field::{is_utf8, short_field};
 use crate::joined::put_values;
 use crate::unknown::Keeping;
+use crate::value::any;
 use otlp_trace::{AnyValue, KeyValue, put_bytes_field, put_some_bytes, wrap_in_field};
 use pb_wire::{Field, Value, WireType, next_field, put_tag, put_varint};
 use std::alloc::{AllocError, Global};
@@ -95,13 +96,50 @@ fn put_unknown<M: Keeping>(
     Ok(true)
 }
 
+/// Whether a value's field can be read by itself, and leaves nothing to another: a bool, a number, bytes, or a string
+/// of UTF-8. An array and a list would: they are merged.
+#[inline(always)]
+fn is_scalar(field: Field<'_>) -> bool
+    ensures { result ≡ true → LeavesNothing (entry field.entry) }
+{
+    match field.value {
+        Value::Varint(_number) if field.number == 2 => true,
+        Value::Varint(_number) if field.number == 3 => true,
+        Value::Eight(_double) if field.number == 4 => true,
+        Value::Bytes(text) if field.number == 1 => is_utf8(text),
+        Value::Bytes(_bytes) if field.number == 7 => true,
+        _ => false,
+    }
+}
+
+/// Whether the one value is a member that leaves nothing to another, and the other value begins with one: in one value
+/// both are read as the other alone.
+#[inline(always)]
+fn gives_place(value: &[u8], later: &[u8], depth: u32) -> bool
+    ensures { result ≡ true → GivesPlace value.now later.now }
+{
+    let Ok(Some((member, rest))) = next_field(value, depth) else {
+        return false;
+    };
+    let Ok(Some((next, _others))) = next_field(later, depth) else {
+        return false;
+    };
+    if !rest.is_empty() {
+        return false;
+    }
+    if !is_scalar(member) {
+        return false;
+    }
+    AnyValue::knows(next)
+}
+
 /// The key and the value of an attribute.
 #[derive(Clone, Copy)]
 pub struct Pair<'a> {
     /// The last key that stands in it, empty where there is none.
     pub key: &'a [u8],
 
-    /// Its value, empty where there is none or more than one.
+    /// Its value, or that which is read as all of its values; empty where there is none or no such.
     pub value: &'a [u8],
 
     /// A value stands in it.
@@ -111,7 +149,7 @@ pub struct Pair<'a> {
     pub unknown: usize,
 }
 
-/// The key and the value, where the text has one value at most.
+/// The key and the value, where the text has one value at most, or several of which the last is read as all of them.
 #[inline(always)]
 fn split_pair(text: &[u8], depth: u32) -> Option<Pair<'_>>
     ensures { IfSome result (λ pair. IsPair depth text.now pair.key.now pair.value.now
@@ -140,6 +178,7 @@ fn split_pair(text: &[u8], depth: u32) -> Option<Pair<'_>>
                 value = bytes;
                 has_value = true;
             }
+            2 if gives_place(value, bytes, depth) => value = bytes,
             _ => return None,
         }
         left = rest;
@@ -174,7 +213,8 @@ fn short_pair(text: &[u8]) -> Option<Pair<'_>>
     })
 }
 
-/// The key and the value, where the text has one value at most. Most are short, and take no walk.
+/// The key and the value, where the text has one value at most, or one that is read as all. Most are short, and take no
+/// walk.
 #[inline(always)]
 fn pair_in(text: &[u8], depth: u32) -> Option<Pair<'_>>
     ensures { IfSome result (λ pair. IsPair depth text.now pair.key.now pair.value.now
@@ -196,22 +236,36 @@ struct Chosen<'a> {
     unknown: usize,
 }
 
-/// Whether the member, if there is one, can be read by itself, and leaves nothing to one that follows. An array and a
-/// list would: they are merged.
+/// Whether a value's field, so spelled, can be read by itself, and leaves nothing to another in the rest, unless that
+/// is merged with it. There is room for so many levels, the value's own among them. An array and a list are looked at
+/// as canonical text is.
 #[inline(always)]
-fn gives_way(member: Option<Field<'_>>) -> bool
-    ensures { result ≡ true → GivesWay (option_map entry member.entry) }
+fn gives_way(field: Field<'_>, spelled: &[u8], rest: &[u8], room: u32) -> bool
+    ensures { result ≡ true → IsField (101 - room) spelled.now (entry field.entry)
+        → GivesWay (room - 1) (Some (entry field.entry)) }
 {
-    let Some(field) = member else {
-        return true;
-    };
+    if rest.is_empty() {
+        return false;
+    }
     match field.value {
-        Value::Varint(_number) if field.number == 2 => true,
-        Value::Varint(_number) if field.number == 3 => true,
-        Value::Eight(_double) if field.number == 4 => true,
-        Value::Bytes(text) if field.number == 1 => is_utf8(text),
-        Value::Bytes(_bytes) if field.number == 7 => true,
-        _ => false,
+        Value::Bytes(_values) if field.number == 5 => any(spelled, room).is_some(),
+        Value::Bytes(_pairs) if field.number == 6 => any(spelled, room).is_some(),
+        _ => is_scalar(field),
+    }
+}
+
+/// Whether a value's field is merged with the member before it, if there is one: an array with an array, a list with a
+/// list.
+#[inline(always)]
+fn is_merged(member: Option<Field<'_>>, next: Field<'_>) -> bool
+    ensures { result ≡ merges (number_of (option_map entry member.entry))
+        (entry next.entry).number }
+{
+    match member {
+        Some(field) => {
+            field.number == 5 && next.number == 5 || field.number == 6 && next.number == 6
+        }
+        None => false,
     }
 }
 
@@ -232,13 +286,16 @@ fn as_written(field: Field<'_>) -> Field<'_>
     }
 }
 
-/// The member of a value that counts, as it is written, if all before it give way.
+/// The member of a value that counts, as it is written, if all before it give way. There is room for so many levels,
+/// the value's own among them.
 #[inline(always)]
-fn split_value(text: &[u8], depth: u32) -> Option<Chosen<'_>>
-    ensures { IfSome result (λ chosen. IsValue depth text.now (option_map entry chosen.member)
-        chosen.unknown) }
+fn split_value(text: &[u8], room: u32) -> Option<Chosen<'_>>
+    ensures { IfSome result (λ chosen. IsValue (room - 1) (101 - room) text.now
+        (option_map entry chosen.member) chosen.unknown) }
 {
+    let depth = 101u32.saturating_sub(room);
     let mut member: Option<Field<'_>> = None;
+    let mut gives = true;
     let mut unknown = 0usize;
     let mut left = text;
     'fields: while !left.is_empty() {
@@ -250,9 +307,11 @@ fn split_value(text: &[u8], depth: u32) -> Option<Chosen<'_>>
             left = rest;
             continue;
         }
-        if !gives_way(member) {
+        if !gives || is_merged(member, field) {
             return None;
         }
+        let spelled = &left[..left.len() - rest.len()];
+        gives = gives_way(field, spelled, rest, room);
         member = Some(as_written(field));
         left = rest;
     }
@@ -279,8 +338,7 @@ pub fn parts_of(text: &[u8], room: u32) -> Option<Parts<'_>>
     }
     let depth = 101u32.saturating_sub(room);
     let pair = pair_in(text, depth)?;
-    let inside = 102u32.saturating_sub(room);
-    let chosen = split_value(pair.value, inside)?;
+    let chosen = split_value(pair.value, room - 1)?;
     Some(Parts { pair, chosen })
 }
 
@@ -324,7 +382,7 @@ fn put_plain(
     room: u32,
 ) -> Result<bool, AllocError>
     requires some { 0 < room }
-    ensures { IsValue (101 - room) value.now (Some (entry field.entry)) unknown
+    ensures { IsValue (room - 1) (101 - room) value.now (Some (entry field.entry)) unknown
         → IfOk result (λ whole. whole ≡ true
         → ReadAlike any_step_in no_value room value.now copy.old.items copy.new.items) }
 {
@@ -336,26 +394,46 @@ fn put_plain(
     Ok(whole)
 }
 
-/// Appends a field of a span with the attribute's text anew, by way of `put_pair`.
-pub fn put_nested(
+/// Appends a field of a span with the attribute's text anew, of which this is the key and the value, by way of
+/// `put_split`.
+#[inline(never)]
+fn put_nested(
     alloc: Global,
     copy: &mut Vec<u8>,
     text: &[u8],
+    pair: Pair<'_>,
     room: u32,
 ) -> Result<bool, AllocError>
-    ensures { IfOk result (λ whole. whole ≡ true
+    requires some { 0 < room }
+    ensures { IsPair (101 - room) text.now pair.entry.key.now pair.entry.value.now
+        pair.entry.has_value pair.entry.unknown → IfOk result (λ whole. whole ≡ true
         → FieldAlike key_value_step no_key_value room 9 text.now copy.old.items copy.new.items) }
 {
     let start = copy.len();
-    if !put_pair(alloc, copy, text, room, false)? {
+    if !put_split(alloc, copy, text, pair, pair.value, room, false)? {
         return Ok(false);
     }
     wrap_in_field(copy, start, 9)?;
     Ok(true)
 }
 
-/// The same. Where it tells that it didn't, nothing is appended: the text is put apart first, where it takes its bytes
-/// once more.
+/// Appends a field of a span with the text anew of an attribute that has several values, by way of `put_several`.
+#[inline(never)]
+fn put_joined(alloc: Global, copy: &mut Vec<u8>, text: &[u8], room: u32) -> Result<bool, AllocError>
+    requires some { 0 < room }
+    ensures { IfOk result (λ whole. whole ≡ true
+        → FieldAlike key_value_step no_key_value room 9 text.now copy.old.items copy.new.items) }
+{
+    let start = copy.len();
+    if !put_several(alloc, copy, text, room, false)? {
+        return Ok(false);
+    }
+    wrap_in_field(copy, start, 9)?;
+    Ok(true)
+}
+
+/// Appends a field of a span with the attribute's text anew, by way of `put_pair`. Where it tells that it didn't,
+/// nothing is appended: the text is put apart first, where it takes its bytes once more.
 pub fn put_alone(
     alloc: Global,
     copy: &mut Vec<u8>,
@@ -384,8 +462,12 @@ pub fn put_respelled(
     ensures { IfOk result (λ whole. whole ≡ true
         → FieldAlike key_value_step no_key_value room 9 text.now copy.old.items copy.new.items) }
 {
-    let Some(parts) = parts_of(text, room) else {
+    if room == 0 {
         return Ok(false);
+    }
+    let Some(parts) = parts_of(text, room) else {
+        let whole = put_joined(alloc, copy, text, room)?;
+        return Ok(whole);
     };
     let whole = put_parts(alloc, copy, text, parts, room)?;
     Ok(whole)
@@ -409,7 +491,7 @@ pub fn put_parts(
     }
     let pair = parts.pair;
     let Some(field) = plain_member(parts, room - 1) else {
-        let whole = put_nested(alloc, copy, text, room)?;
+        let whole = put_nested(alloc, copy, text, pair, room)?;
         return Ok(whole);
     };
     let unknown = parts.chosen.unknown;
@@ -518,7 +600,7 @@ pub fn put_pair(
         return Ok(false);
     }
     let depth = 101u32.saturating_sub(room);
-    let Some(pair) = split_pair(text, depth) else {
+    let Some(pair) = pair_in(text, depth) else {
         let whole = put_several(alloc, copy, text, room, joined)?;
         return Ok(whole);
     };
@@ -542,7 +624,7 @@ fn put_value(
         return Ok(false);
     }
     let depth = 101u32.saturating_sub(room);
-    let Some(chosen) = split_value(text, depth) else {
+    let Some(chosen) = split_value(text, room) else {
         return Ok(false);
     };
     let Some(field) = chosen.member else {

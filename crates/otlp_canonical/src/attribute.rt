@@ -8,8 +8,9 @@ ghost use Rattle.otlp_canonical.specs.Inner.{FieldAlike};
 ghost use Rattle.otlp_read.specs.AnyValue.{no_key_value, key_value_step};
 
 use crate::anew::put_respelled;
-use crate::field::short_field;
-use crate::number::split;
+use crate::field::{bytes_field, short_field};
+use crate::number::{content, split};
+use crate::value::{any, scalar};
 use otlp_trace::put_bytes_field;
 use pb_wire::{Value, WireType, next_field, put_tag, put_varint};
 use std::alloc::{AllocError, Global};
@@ -45,40 +46,51 @@ fn short_key(text: &[u8]) -> Option<u8> {
     }
 }
 
-/// Whether the value behind a key of so many bytes, both with lengths of one byte, begins with what isn't known, or
-/// with a string behind which more stands.
+/// Whether a value begins with what isn't known, or with a member behind which more stands, or with one that isn't as
+/// short as it can be. An array or a list is looked into where there is room for some levels, the value's own among
+/// them.
 #[inline(always)]
-fn holds_more(text: &[u8], key_size: u8) -> bool {
+fn holds_more(value: &[u8], room: u32) -> bool {
+    let Some((first, behind)) = value.split_first() else {
+        return false;
+    };
+    match *first {
+        0x0a | 0x3a => match content(behind) {
+            Some((_held, more)) => !more.is_empty(),
+            None => true,
+        },
+        0x2a | 0x32 => match content(behind) {
+            Some((_held, more)) => !more.is_empty() || room > 0 && any(value, room).is_none(),
+            None => true,
+        },
+        _ => match scalar(value) {
+            Some(more) => !more.is_empty(),
+            None => true,
+        },
+    }
+}
+
+/// Whether another value or a key stands behind the value that follows a key of so many bytes, with a length of one
+/// byte; or that value holds more.
+#[inline(always)]
+fn goes_on(text: &[u8], key_size: u8, room: u32) -> bool {
     let Some((_key, behind)) = split(text, usize::from(key_size) + 2) else {
         return false;
     };
-    let Some((front, _rest)) = behind.split_first_chunk::<4>() else {
+    let Some((value, others)) = bytes_field(behind, 2) else {
         return false;
     };
-    match front[2] {
-        0x0a => usize::from(front[3]) + 2 != usize::from(front[1]) && front[1] < 0x80,
-        0x10 | 0x18 | 0x21 | 0x2a | 0x32 | 0x3a => false,
-        _ => front[1] < 0x80,
-    }
-}
-
-/// Whether the attribute begins with a key, as most do, and with a value that doesn't hold more.
-#[inline(always)]
-fn begins_plainly(text: &[u8]) -> bool {
-    match short_key(text) {
-        Some(size) => !holds_more(text, size),
-        None => false,
-    }
+    holds_more(value, room) || matches!(others.first(), Some(0x0a | 0x12))
 }
 
 /// Whether the attribute's text can't be canonical, by what it begins with: an empty key, a key whose length is longer
-/// than it has to be, a value behind which a key stands, or a field that isn't known, behind which one of these stands
-/// as a rule. Nor can it be, as a rule, where its value begins with a field that isn't known, or with a string and
-/// more.
+/// than it has to be, a value behind which a key or a value stands, or a field that isn't known, behind which one of
+/// these stands as a rule. Nor can it be, as a rule, where its value begins with a field that isn't known, or with a
+/// member and more. With room for some levels in the value, that is looked into where it is an array or a list.
 #[inline(always)]
-pub fn begins_otherwise(text: &[u8]) -> bool {
+pub fn begins_otherwise(text: &[u8], room: u32) -> bool {
     if let Some(size) = short_key(text) {
-        return holds_more(text, size);
+        return goes_on(text, size, room);
     }
     match text.first() {
         Some(0x0a) => text.len() <= LONGEST_SHORT,
@@ -86,6 +98,25 @@ pub fn begins_otherwise(text: &[u8]) -> bool {
         Some(_) => true,
         None => false,
     }
+}
+
+/// Whether a key that isn't empty stands at the front, with a string as the value behind it and nothing else, all with
+/// lengths of one byte, as most attributes are. These lengths alone are looked at.
+#[inline(always)]
+fn begins_plainly(text: &[u8]) -> bool {
+    let Some(size) = short_key(text) else {
+        return false;
+    };
+    let Some((_key, behind)) = split(text, usize::from(size) + 2) else {
+        return false;
+    };
+    let Some((front, string)) = behind.split_first_chunk::<4>() else {
+        return false;
+    };
+    front[2] == 0x0a
+        && string.len() == usize::from(front[3])
+        && string.len() + 2 == usize::from(front[1])
+        && front[1] < 0x80
 }
 
 /// Whether the attribute is a key that isn't empty and then a string, all with lengths of one byte, as most are. What
@@ -128,22 +159,23 @@ fn is_behind_value(text: &[u8]) -> bool {
 /// vain in a longer one is put so once.
 const LONGEST_RESPELLED: usize = 16_384;
 
-/// Whether the attribute of a span of so many bytes is respelled while the span is looked for defaults.
+/// Whether the attribute of a span of so many bytes is respelled while the span is looked for defaults. There is room
+/// for so many levels, the attribute's own among them.
 #[inline(always)]
-pub fn is_respelled(text: &[u8], span: usize) -> bool {
-    span <= LONGEST_RESPELLED && begins_otherwise(text)
+pub fn is_respelled(text: &[u8], span: usize, room: u32) -> bool {
+    span <= LONGEST_RESPELLED && begins_otherwise(text, room.saturating_sub(1))
 }
 
 /// The attribute at the front, if it has a length of one byte and isn't respelled, and the rest. The span has so many
 /// bytes.
 #[inline(always)]
-pub fn short_attribute(text: &[u8], span: usize) -> Option<(&[u8], &[u8])>
+pub fn short_attribute(text: &[u8], span: usize, room: u32) -> Option<(&[u8], &[u8])>
     ensures parts { IfSome result (λ x. text.now ≡ bytes_field 9 x.0.now ++ x.1.now) }
     ensures shorter { IfSome result (λ x. length x.1.now < length text.now) }
     ensures short { IfSome result (λ x. length x.0.now < 128) }
 {
     let (attribute, rest) = short_field(text, 9)?;
-    if begins_plainly(attribute) || !is_respelled(attribute, span) {
+    if begins_plainly(attribute) || !is_respelled(attribute, span, room) {
         Some((attribute, rest))
     } else {
         None
@@ -231,12 +263,13 @@ pub fn put_attribute(
     Ok(whole)
 }
 
-/// Appends a span's attribute: anew where it can't be canonical otherwise, or where its value holds others behind a
-/// long length; else its length and its value's as short as they can be. Tells whether it did.
+/// Appends a span's attribute: anew where it is respelled or can't be canonical otherwise, or where its value holds
+/// others behind a long length; else its length and its value's as short as they can be. Tells whether it did.
 pub fn put_span_attribute(
     alloc: Global,
     copy: &mut Vec<u8>,
     text: &[u8],
+    respelled: bool,
     room: u32,
 ) -> Result<bool, AllocError>
     ensures { IfOk result (λ whole. whole ≡ true
@@ -245,7 +278,7 @@ pub fn put_span_attribute(
     if room == 0 {
         return Ok(false);
     }
-    if begins_otherwise(text) {
+    if respelled || begins_otherwise(text, 0) {
         let whole = put_respelled(alloc, copy, text, room)?;
         return Ok(whole);
     }

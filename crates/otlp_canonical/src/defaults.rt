@@ -38,15 +38,15 @@ pub fn is_default(field: Field<'_>) -> bool
 }
 
 /// How many bytes of the message in a span's field, which takes so many, need not be there: defaults that are written
-/// out, and lengths longer than they have to be; 0 where it is an attribute that is respelled. None where the field
-/// stays as it is.
+/// out, and lengths longer than they have to be. Of an attribute none are counted, and 1 where it is respelled. None
+/// where the field stays as it is.
 #[inline(always)]
 fn spare_inside(field: Field<'_>, size: usize, room: u32, span: usize) -> Option<usize> {
     let Value::Bytes(text) = field.value else {
         return None;
     };
     let spare = match field.number {
-        9 if is_respelled(text, span) => return Some(0),
+        9 if is_respelled(text, span, room) => return Some(1),
         9 => 0,
         11 => spare_size::<Event>(text, room),
         13 => spare_size::<Link>(text, room),
@@ -79,7 +79,7 @@ fn put_inside(
         return Ok(false);
     };
     let whole = match field.number {
-        9 => put_span_attribute(alloc, copy, text, room)?,
+        9 => put_span_attribute(alloc, copy, text, spare > 0, room)?,
         11 => put_message::<Event>(copy, 11, text, spare, room)?,
         13 => put_message::<Link>(copy, 13, text, spare, room)?,
         15 if most < 15 => put_message::<Status>(copy, 15, text, spare, room)?,
@@ -166,7 +166,7 @@ fn put_fields<'a>(
     let mut most = 0u32;
     'fields: while !left.is_empty() {
         // Most attributes have lengths of one byte, and stay.
-        if let Some((_attribute, rest)) = short_attribute(left, text.len()) {
+        if let Some((_attribute, rest)) = short_attribute(left, text.len(), room - 1) {
             most = most.max(9);
             left = rest;
             continue;

@@ -41,7 +41,7 @@ fn stays(field: Field<'_>, size: usize, room: u32) -> bool {
     };
     let canonical = match field.number {
         9 if is_plain(text) => true,
-        9 => !begins_otherwise(text) && KeyValue::check(text, room).is_some(),
+        9 => !begins_otherwise(text, 0) && KeyValue::check(text, room).is_some(),
         11 => Event::check(text, room).is_some(),
         13 => Link::check(text, room).is_some(),
         15 => Status::check(text, room).is_some(),

@@ -91,7 +91,7 @@ fn kind(text: &[u8], room: u32) -> Option<&[u8]>
 
 /// Goes over a value, with room for so many levels, its own among them.
 #[cycle(any)]
-fn any(text: &[u8], room: u32) -> Option<()>
+pub fn any(text: &[u8], room: u32) -> Option<()>
     ensures { IfSome result (λ u. Whole any_text (SoundAny room) text.now) }
 {
     if room == 0 {
@@ -140,7 +140,7 @@ fn list(text: &[u8], room: u32) -> Option<()>
 
 /// What stands behind a bool or a number.
 #[inline(always)]
-fn scalar(text: &[u8]) -> Option<&[u8]>
+pub fn scalar(text: &[u8]) -> Option<&[u8]>
     ensures { (room : ℕ) → IfSome result
         (λ rest. Front kind_text (SoundKind room) text.now rest.now) }
 {

@@ -17,7 +17,7 @@ returns c parts whole =
     let both : IsPair (101 - c.args.room) c.args.text.now key value true c.args.parts.pair.unknown = subst (λ (has : Bool). IsPair (101 - c.args.room) c.args.text.now key value has c.args.parts.pair.unknown) some parts.pair in
     let size = c.args.parts.chosen.unknown in
     let member : option_map entry c.args.parts.chosen.member ≡ Some (entry c.in-Some.field) = search rules in
-    let is : IsValue (101 - (c.args.room - 1)) value (Some (entry c.in-Some.field)) size = subst (λ (o : Option Entry). IsValue (101 - (c.args.room - 1)) value o size) member parts.value in
+    let is : IsValue (c.args.room - 1 - 1) (101 - (c.args.room - 1)) value (Some (entry c.in-Some.field)) size = subst (λ (o : Option Entry). IsValue (c.args.room - 1 - 1) (101 - (c.args.room - 1)) value o size) member parts.value in
     let sized = c.put_varint.new.out.items in
     let keyed = c.put_some_bytes.new.out.items in
     let inside = c.put_varint-2.new.out.items in
@@ -33,3 +33,6 @@ returns c parts whole =
     let fits : length new < 2 ^ 64 = omega arith in
     plain_alike c.args.room c.saturating_add-size.result c.saturating_add-value_size.result c.args.parts.pair.unknown c.args.text.now key value c.args.copy.now.items c.put_tag.new.out.items sized keyed c.put_tag-2.new.out.items inside valued new (omega arith) both read
     (search rules) (search rules) (search rules) (search rules) (search rules) value_at kept size_at keyed_fits valued_fits fits
+
+pub returns-in_default : goal.returns-in_default
+returns-in_default c parts whole = c.in_ok-whole.ensures parts.pair whole

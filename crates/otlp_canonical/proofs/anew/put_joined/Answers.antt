@@ -1,0 +1,14 @@
+use Rattle.std.proofs.Common.{rules, arith, ◌<◌, ◌^◌, length}
+use Rattle.otlp_read.specs.AnyValue.{no_key_value, key_value_step}
+use Rattle.otlp_canonical.specs.Inner.{ReadAlike}
+use Rattle.otlp_canonical.proofs.Respelled.{wrapped}
+use Rattle.otlp_canonical.proofs.anew.put_joined.Goals as goal
+
+pub returns : goal.returns
+returns c whole =
+    let text = c.args.text.now in
+    let old = c.args.copy.now.items in
+    let mid = c.put_several.new.copy.items in
+    let a : ReadAlike key_value_step no_key_value c.args.room text old mid = search rules in
+    let fits : length mid < 2 ^ 64 = omega arith in
+    wrapped key_value_step no_key_value c.args.room 9 c.len-start.result text old mid c.wrap_in_field.new.out.items (search rules) fits (search rules) a
