@@ -144,7 +144,23 @@ not_known_before_a_value 4a0a0a016b180112030a0176 4a0a0a016b12030a01761801\n\
 not_known_in_a_value_and_in_its_attribute 4a0e38010a016b120540010a01761802 4a0e0a016b12050a0176400138011802\n\
 two_members_behind_a_longer_length 4a0d0a016b12858080000a01761001 none\n\
 a_string_that_is_not_utf_8_and_a_bool 4a0a0a016b12050a01ff1001 none\n\
-an_array_between_two_members 4a110a016b120c0a01762a050a030a01761001 none\n\
+an_array_between_two_members 4a110a016b120c0a01762a050a030a01761001 4a070a016b12021001\n\
+# A value that begins with a bool, a number, bytes or an array and holds more, one that isn't as short as it can\n\
+# be, and two values.\n\
+a_bool_and_a_string 4a0a0a016b120510010a0176 4a080a016b12030a0176\n\
+a_bool_of_two 4a070a016b12021002 4a070a016b12021001\n\
+a_number_and_a_string 4a0a0a016b120518050a0176 4a080a016b12030a0176\n\
+a_number_of_two_bytes_and_a_string 4a0b0a016b120618ac020a0176 4a080a016b12030a0176\n\
+a_number_that_is_not_short 4a080a016b1203188500 4a070a016b12021805\n\
+a_double_and_a_string 4a110a016b120c2101010101010101010a0176 4a080a016b12030a0176\n\
+bytes_and_a_string 4a0b0a016b12063a01ff0a0176 4a080a016b12030a0176\n\
+an_array_and_a_string 4a0f0a016b120a2a050a030a01760a0177 4a080a016b12030a0177\n\
+two_members_in_an_array 4a0e0a016b12092a070a0518050a0176 4a0c0a016b12072a050a030a0176\n\
+two_values_in_a_list 4a160a016b1211320f0a0d0a016c12030a017612030a0177 4a110a016b120c320a0a080a016c12030a0177\n\
+two_values_behind_a_key 4a0d0a016b12030a017612030a0177 4a080a016b12030a0177\n\
+two_keys_around_a_value 4a0b0a016b12030a01760a016c 4a080a016c12030a0176\n\
+two_arrays 4a130a016b120e2a050a030a01762a050a030a0177 none\n\
+two_values_of_which_one_is_no_text 4a0d0a016b12030a01ff12030a0177 none\n\
 # An event's name before its time, as that client writes it.\n\
 an_event_with_its_name_first 5a998080001201650901000000000000001a888080000a016b12030a0176 \
 5a160901000000000000001201651a080a016b12030a0176\n\

@@ -23,7 +23,8 @@ an_attribute_that_is_no_text 0a030a01ff1000 none\n\
 an_attribute_with_not_known_in_its_value 0a090a016b1204480118021000 0a090a016b120418024801\n\
 an_array_behind_a_long_length 0a0d0a016b1287002a050a030a0176 0a0c0a016b12072a050a030a0176\n\
 a_count_before_a_bool_of_two 10020a070a016b12021002 0a070a016b120210011002\n\
-an_array_and_a_string 0a0f0a016b120a2a050a030a01760a0177 none\n\
+an_array_and_a_string 0a0f0a016b120a2a050a030a01760a0177 0a080a016b12030a0177\n\
+two_arrays 0a130a016b120e2a050a030a01762a050a030a0176 none\n\
 cut 0a080a016b12030a017610 none\n\
 of_no_wire_type 17 none\n";
 
