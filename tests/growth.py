@@ -112,14 +112,14 @@ def members_of_value(n):
 
 
 def attributes_to_be_read(n):
-    """One span of n attributes with an array before a string in each value, for which the whole span is read and written."""
-    text = piece(9, piece(1, b"k") + piece(2, piece(5, piece(1, SOME_VALUE)) + SOME_VALUE))
+    """One span of n attributes with two arrays in each value, for which the whole span is read and written."""
+    text = piece(9, piece(1, b"k") + piece(2, 2 * piece(5, piece(1, SOME_VALUE))))
     return tenant(), post(0, request([ids(1, 1) + text * n])) + DUE, "job a 1 "
 
 
 def attributes_to_be_read_apart(n):
     """The same with another attribute behind each of them, so that each is read and written alone."""
-    text = piece(9, piece(1, b"k") + piece(2, piece(5, piece(1, SOME_VALUE)) + SOME_VALUE)) + attribute(9, "k", "v")
+    text = piece(9, piece(1, b"k") + piece(2, 2 * piece(5, piece(1, SOME_VALUE)))) + attribute(9, "k", "v")
     return tenant(), post(0, request([ids(1, 1) + text * n])) + DUE, "job a 1 "
 
 
@@ -322,7 +322,7 @@ SHAPES = {
     "unknown fields": (unknown_fields, 25_000),
     "unknown fields of an attribute": (unknown_in_attribute, 25_000),
     "members of a value": (members_of_value, 50_000),
-    "attributes of an array before a string": (attributes_to_be_read, 12_500),
+    "attributes of two arrays": (attributes_to_be_read, 12_500),
     "the same, apart": (attributes_to_be_read_apart, 12_500),
     "attributes of two members": (attributes_of_two_members, 12_500),
     "attributes of two values": (attributes_of_two_values, 12_500),

@@ -26,13 +26,13 @@ EMPTY = piece(1, b"")
 URL = piece(3, b"u")
 # A count of 1 in two bytes, of a resource and of a scope, so that neither is canonical.
 LONG_COUNT, LONG_COUNT_OF_SCOPE = b"\x10\x81\x00", b"\x20\x81\x00"
-# Two values of an attribute; a bool that isn't written as one; and an array before a text in one value, for which what it
-# stands in is read as a message.
+# Two values of an attribute; a bool that isn't written as one; and two arrays in one value, for which what it stands in
+# is read as a message.
 TWO_VALUES = piece(1, b"k") + 2 * piece(2, piece(1, b"v"))
 BOOL_OF_TWO = piece(1, b"k") + piece(2, number_field(2, 2))
-AN_ARRAY_AND_A_TEXT = piece(1, b"k") + piece(2, piece(5, b"") + piece(1, b"v"))
-# An array in the first of two values, for which this attribute alone is read as a message.
-AN_ARRAY_FIRST = piece(1, b"k") + piece(2, piece(5, b"")) + piece(2, piece(1, b"v"))
+TWO_ARRAYS = piece(1, b"k") + piece(2, 2 * piece(5, b""))
+# An array in each of two values, for which this attribute alone is read as a message.
+AN_ARRAY_IN_EACH = piece(1, b"k") + 2 * piece(2, piece(5, b""))
 TWICE_COUNTED = 2 * number_field(4, 1)
 
 
@@ -129,11 +129,11 @@ SHAPES = {
     "attributes of an event with a bool of two": (piece(3, b""), in_span(number=11, behind=piece(3, BOOL_OF_TWO)), 5),
     "attributes before an event with a bool of two": (
         piece(9, b""), in_span(behind=piece(11, TWICE_COUNTED + piece(3, BOOL_OF_TWO))), 5),
-    "attributes behind one that is read alone": (piece(9, b""), in_span(before=piece(9, AN_ARRAY_FIRST)), 5),
+    "attributes behind one that is read alone": (piece(9, b""), in_span(before=piece(9, AN_ARRAY_IN_EACH)), 5),
     "one text in lists of two values": (b"v", in_lists_of_two_values, 7),
-    "attributes of a resource that is read": (EMPTY, under(piece(1, AN_ARRAY_AND_A_TEXT)), 76),
-    "lists in lists of a resource that is read": (lists(1), under(piece(1, AN_ARRAY_AND_A_TEXT)), 32),
-    "attributes of a span that is read": (piece(9, b""), in_span(before=2 * piece(9, AN_ARRAY_AND_A_TEXT)), 76),
+    "attributes of a resource that is read": (EMPTY, under(piece(1, TWO_ARRAYS)), 76),
+    "lists in lists of a resource that is read": (lists(1), under(piece(1, TWO_ARRAYS)), 32),
+    "attributes of a span that is read": (piece(9, b""), in_span(before=2 * piece(9, TWO_ARRAYS)), 76),
 }
 
 
