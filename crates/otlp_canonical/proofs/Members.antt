@@ -9,7 +9,7 @@ use Rattle.otlp_trace.specs.Data.{AnyValueData, any_value, KindData, unset, stri
 use Rattle.otlp_read.specs.declared.fault.ReadFault.{ReadFault}
 use Rattle.otlp_trace.specs.Text.{any_text}
 use Rattle.otlp_read.specs.AnyValue.{no_value, no_array, no_list, array_in, list_in, keep_any, any_step_in, read_any, read_array, read_list}
-use Rattle.otlp_read.specs.Nested.{known_of_any}
+use Rattle.otlp_read.specs.Nested.{NestedAny, known_of_any}
 use Rattle.otlp_read.specs.Numbers.{utf8, int64, bool}
 use Rattle.otlp_read.specs.Walk.{◌>>=◌, before, walk}
 use Rattle.otlp_read.proofs.Leaves.{utf8_yes}
@@ -172,11 +172,20 @@ alone_read room spelled field some short first w =
     let fits : Short (any_text w.value) = subst Short w.same short in
     sym (one_walked (any_step_in (room - 1)) (101 - room) no_value spelled field first) ∙ sym (opened_any room no_value spelled some) ∙ ap (read_any room no_value) w.same ∙ any_back room w.value w.sound.typed w.sound.nested fits
 
-pub array_gives : (room : ℕ) (spelled bs : List ℕ) → 0 < room → length spelled < 2 ^ 64 → IsField (101 - room) spelled (holding 5 bs) → Whole any_text (SoundAny room) spelled → GivesWay (room - 1) (Some (holding 5 bs))
-array_gives room spelled bs some short first w = array_read (room - 1) bs (read_array (room - 1) no_array bs) w.value refl (alone_read room spelled (holding 5 bs) some short first w)
+-- it takes a level itself
+some_room : (room : ℕ) (v : AnyValueData) → NestedAny room v → 0 < room
+some_room zero v nested = absurd nested
+some_room (suc room) v nested = omega arith
 
-pub list_gives : (room : ℕ) (spelled bs : List ℕ) → 0 < room → length spelled < 2 ^ 64 → IsField (101 - room) spelled (holding 6 bs) → Whole any_text (SoundAny room) spelled → GivesWay (room - 1) (Some (holding 6 bs))
-list_gives room spelled bs some short first w = list_read (room - 1) bs (read_list (room - 1) no_list bs) w.value refl (alone_read room spelled (holding 6 bs) some short first w)
+pub array_gives : (room : ℕ) (spelled bs : List ℕ) → length spelled < 2 ^ 64 → IsField (101 - room) spelled (holding 5 bs) → Whole any_text (SoundAny room) spelled → GivesWay (room - 1) (Some (holding 5 bs))
+array_gives room spelled bs short first w =
+    let some : 0 < room = some_room room w.value w.sound.nested in
+    array_read (room - 1) bs (read_array (room - 1) no_array bs) w.value refl (alone_read room spelled (holding 5 bs) some short first w)
+
+pub list_gives : (room : ℕ) (spelled bs : List ℕ) → length spelled < 2 ^ 64 → IsField (101 - room) spelled (holding 6 bs) → Whole any_text (SoundAny room) spelled → GivesWay (room - 1) (Some (holding 6 bs))
+list_gives room spelled bs short first w =
+    let some : 0 < room = some_room room w.value w.sound.nested in
+    list_read (room - 1) bs (read_list (room - 1) no_list bs) w.value refl (alone_read room spelled (holding 6 bs) some short first w)
 
 -- ---- a member that is put for another
 

@@ -16,7 +16,7 @@ returns-in-Bytes c whole first =
     let there : is_some c.any.result ≡ true = search rules in
     let w : Whole any_text (SoundAny c.args.room) c.args.spelled.now = of_some c.any.result c.any.ensures there in
     let here : IsField (101 - c.args.room) c.args.spelled.now (holding 5 values) = subst (λ (f : Entry). IsField (101 - c.args.room) c.args.spelled.now f) is first in
-    subst (λ (f : Entry). GivesWay (c.args.room - 1) (Some f)) (sym is) (array_gives c.args.room c.args.spelled.now values (omega arith) (omega arith) here w)
+    subst (λ (f : Entry). GivesWay (c.args.room - 1) (Some f)) (sym is) (array_gives c.args.room c.args.spelled.now values (omega arith) here w)
 
 pub returns-in-Bytes-2 : goal.returns-in-Bytes-2
 returns-in-Bytes-2 c whole first =
@@ -25,7 +25,7 @@ returns-in-Bytes-2 c whole first =
     let there : is_some c.any-in-Bytes-2.result ≡ true = search rules in
     let w : Whole any_text (SoundAny c.args.room) c.args.spelled.now = of_some c.any-in-Bytes-2.result c.any-in-Bytes-2.ensures there in
     let here : IsField (101 - c.args.room) c.args.spelled.now (holding 6 pairs) = subst (λ (f : Entry). IsField (101 - c.args.room) c.args.spelled.now f) is first in
-    subst (λ (f : Entry). GivesWay (c.args.room - 1) (Some f)) (sym is) (list_gives c.args.room c.args.spelled.now pairs (omega arith) (omega arith) here w)
+    subst (λ (f : Entry). GivesWay (c.args.room - 1) (Some f)) (sym is) (list_gives c.args.room c.args.spelled.now pairs (omega arith) here w)
 
 pub returns-in_default : goal.returns-in_default
 returns-in_default c whole first = scalar_gives (c.args.room - 1) (entry c.args.field) (c.is_scalar.ensures whole)
