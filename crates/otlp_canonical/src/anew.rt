@@ -394,46 +394,26 @@ fn put_plain(
     Ok(whole)
 }
 
-/// Appends a field of a span with the attribute's text anew, of which this is the key and the value, by way of
-/// `put_split`.
-#[inline(never)]
+/// Appends a field of a span with the attribute's text anew, by way of `put_pair`.
 fn put_nested(
     alloc: Global,
     copy: &mut Vec<u8>,
     text: &[u8],
-    pair: Pair<'_>,
     room: u32,
 ) -> Result<bool, AllocError>
-    requires some { 0 < room }
-    ensures { IsPair (101 - room) text.now pair.entry.key.now pair.entry.value.now
-        pair.entry.has_value pair.entry.unknown → IfOk result (λ whole. whole ≡ true
-        → FieldAlike key_value_step no_key_value room 9 text.now copy.old.items copy.new.items) }
-{
-    let start = copy.len();
-    if !put_split(alloc, copy, text, pair, pair.value, room, false)? {
-        return Ok(false);
-    }
-    wrap_in_field(copy, start, 9)?;
-    Ok(true)
-}
-
-/// Appends a field of a span with the text anew of an attribute that has several values, by way of `put_several`.
-#[inline(never)]
-fn put_joined(alloc: Global, copy: &mut Vec<u8>, text: &[u8], room: u32) -> Result<bool, AllocError>
-    requires some { 0 < room }
     ensures { IfOk result (λ whole. whole ≡ true
         → FieldAlike key_value_step no_key_value room 9 text.now copy.old.items copy.new.items) }
 {
     let start = copy.len();
-    if !put_several(alloc, copy, text, room, false)? {
+    if !put_pair(alloc, copy, text, room, false)? {
         return Ok(false);
     }
     wrap_in_field(copy, start, 9)?;
     Ok(true)
 }
 
-/// Appends a field of a span with the attribute's text anew, by way of `put_pair`. Where it tells that it didn't,
-/// nothing is appended: the text is put apart first, where it takes its bytes once more.
+/// The same. Where it tells that it didn't, nothing is appended: the text is put apart first, where it takes its bytes
+/// once more.
 pub fn put_alone(
     alloc: Global,
     copy: &mut Vec<u8>,
@@ -462,11 +442,8 @@ pub fn put_respelled(
     ensures { IfOk result (λ whole. whole ≡ true
         → FieldAlike key_value_step no_key_value room 9 text.now copy.old.items copy.new.items) }
 {
-    if room == 0 {
-        return Ok(false);
-    }
     let Some(parts) = parts_of(text, room) else {
-        let whole = put_joined(alloc, copy, text, room)?;
+        let whole = put_nested(alloc, copy, text, room)?;
         return Ok(whole);
     };
     let whole = put_parts(alloc, copy, text, parts, room)?;
@@ -491,7 +468,7 @@ pub fn put_parts(
     }
     let pair = parts.pair;
     let Some(field) = plain_member(parts, room - 1) else {
-        let whole = put_nested(alloc, copy, text, pair, room)?;
+        let whole = put_nested(alloc, copy, text, room)?;
         return Ok(whole);
     };
     let unknown = parts.chosen.unknown;

@@ -33,6 +33,3 @@ returns c parts whole =
     let fits : length new < 2 ^ 64 = omega arith in
     plain_alike c.args.room c.saturating_add-size.result c.saturating_add-value_size.result c.args.parts.pair.unknown c.args.text.now key value c.args.copy.now.items c.put_tag.new.out.items sized keyed c.put_tag-2.new.out.items inside valued new (omega arith) both read
     (search rules) (search rules) (search rules) (search rules) (search rules) value_at kept size_at keyed_fits valued_fits fits
-
-pub returns-in_default : goal.returns-in_default
-returns-in_default c parts whole = c.in_ok-whole.ensures parts.pair whole

@@ -40,8 +40,8 @@ fields-preserved c =
     let is : c.knows.result ≡ true = search rules in
     let gives : c.fields.gives ≡ true = search rules in
     let apart : merges (number_of (option_map entry c.fields.member)) field.number ≡ false = search rules in
-    chosen_as inner (101 - c.args.room) c.args.text.now rest field (entry c.as_written.result) c.gives_way.result c.fields.unknown c.as_written.ensures
-    (member_chosen inner (101 - c.args.room) c.args.text.now left rest (option_map entry c.fields.member) c.fields.gives c.gives_way.result c.fields.unknown field there gives apart (λ room v. c.knows.ensures room v ∙ is) (λ e. c.gives_way.ensures e first) c.fields.invariant)
+    chosen_as inner (101 - c.args.room) c.args.text.now rest field (entry c.as_written.result) c.gives_way-gives.result c.fields.unknown c.as_written.ensures
+    (member_chosen inner (101 - c.args.room) c.args.text.now left rest (option_map entry c.fields.member) c.fields.gives c.gives_way-gives.result c.fields.unknown field there gives apart (λ room v. c.knows.ensures room v ∙ is) (λ e. c.gives_way-gives.ensures e first) c.fields.invariant)
 
 pub returns : goal.returns
 returns c =
