@@ -395,12 +395,7 @@ fn put_plain(
 }
 
 /// Appends a field of a span with the attribute's text anew, by way of `put_pair`.
-fn put_nested(
-    alloc: Global,
-    copy: &mut Vec<u8>,
-    text: &[u8],
-    room: u32,
-) -> Result<bool, AllocError>
+fn put_nested(alloc: Global, copy: &mut Vec<u8>, text: &[u8], room: u32) -> Result<bool, AllocError>
     ensures { IfOk result (λ whole. whole ≡ true
         → FieldAlike key_value_step no_key_value room 9 text.now copy.old.items copy.new.items) }
 {
