@@ -1,4 +1,4 @@
-use Rattle.std.proofs.Common.{rules, arith, ◌≡◌, ◌<◌, sym, subst}
+use Rattle.std.proofs.Common.{rules, arith, ◌≡◌, sym, subst}
 use Rattle.pb_wire.specs.Grammar.{Entry, Varint, entry}
 use Rattle.otlp_canonical.specs.Anew.{IsPutFor}
 use Rattle.otlp_canonical.proofs.Members.{same_put, one_put}
