@@ -78,7 +78,7 @@ fn goes_on(text: &[u8], key_size: u8, room: u32) -> bool {
         return false;
     };
     let Some((value, others)) = bytes_field(behind, 2) else {
-        return false;
+        return !behind.is_empty();
     };
     holds_more(value, room) || matches!(others.first(), Some(0x0a | 0x12))
 }
