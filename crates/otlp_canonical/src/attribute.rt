@@ -78,7 +78,7 @@ fn goes_on(text: &[u8], key_size: u8, room: u32) -> bool {
         return false;
     };
     let Some((value, others)) = bytes_field(behind, 2) else {
-        return !behind.is_empty();
+        return !matches!(behind.first(), None | Some(0x12));
     };
     holds_more(value, room) || matches!(others.first(), Some(0x0a | 0x12))
 }
