@@ -20,7 +20,7 @@ use Rattle.tenant_rules.specs.Placement.{opened, placements, spans_in_rows}
 use Rattle.tenant_rules.specs.Sender.{BatchData, SenderData, unbounded, sizes, active_sizes}
 use Rattle.tenant_rules.specs.Batching.{rules_of, as_sent, all_sent, formed, pending, waiting_rows, spans_in}
 use Rattle.tenant_rules.specs.Intake.{IntakeData, intake}
-use Rattle.tenant_rules.specs.Sending.{EndedData, newly_formed, due_formed, made_by, all_offered, overflow, met_no_room, closes, sender, ended}
+use Rattle.tenant_rules.specs.Sending.{EndedData, newly_formed, formed_by_timers, formed_by_step, all_offered, overflow, met_no_room, is_first_drain, sender, ended}
 use Rattle.tenant_rules.specs.State.{State, ended_places, not_sampled, ledger_at, state_at, state}
 use Rattle.tenant_rules.specs.Answers.{answer}
 use Rattle.tenant_rules.specs.Timers.{recount, all_queued, settle, sample, decide_row, advanced}
@@ -191,9 +191,9 @@ met_append xs ys es =
     ended_met (xs ++ ys) es ∙ (ap (λ (n : ℕ). record P { queue_full = n }) both ∙ (ap (λ (q : Places). record q { queue_full = q.queue_full + sizes ys }) (sym (ended_met xs es)) ∙ sym (ended_met ys (map met_no_room xs ++ es))))
 
 drain_by : (w : SectionData) (i : IntakeData) (d e : ℕ) (o : Option ℕ) (D : SenderData) (es : List EndedData) (new due made : List BatchData) → 0 < w.tail_sampling.num_traces → AreValidRules (rules_of w) → d ≤ e → TakenBy d i.spans → DrainedBy o d i.spans →
-    new ≡ drop (length (formed w d o i.spans)) (formed w e (Some (unwrap_or o e)) i.spans) → due ≡ drop (length (formed w d o i.spans)) (formed w e o i.spans) → made ≡ drop (length due) new →
-    state_with w i e (Some (unwrap_or o e)) (cond (closes (Drain e) o) (all_offered made (unbounded (all_offered due D))) (all_offered new D))
-    (map met_no_room (cond (closes (Drain e) o) (overflow due D ++ overflow made (unbounded (all_offered due D))) (overflow new D)) ++ es) ≡ drain e (advanced e (state_with w i d o D es))
+    new ≡ drop (length (formed w d o i.spans)) (formed w e (Some (unwrap_or o e)) i.spans) → due ≡ drop (length (formed w d o i.spans)) (formed w e o i.spans) → made ≡ drop (length (formed w e o i.spans)) (formed w e (Some (unwrap_or o e)) i.spans) →
+    state_with w i e (Some (unwrap_or o e)) (cond (is_first_drain (Drain e) o) (all_offered made (unbounded (all_offered due D))) (all_offered new D))
+    (map met_no_room (cond (is_first_drain (Drain e) o) (overflow due D ++ overflow made (unbounded (all_offered due D))) (overflow new D)) ++ es) ≡ drain e (advanced e (state_with w i d o D es))
 drain_by w i d e (Some x) D es new due made pos sound le by drain_at is due_is made_is =
     let A = i.spans in
     let none : new ≡ [] = is ∙ (ap (drop (length (formed w d (Some x) A))) (formed_stay w x d e A drain_at.0 (omega (arith, le, drain_at.0)) ∙ sym (append-nil (formed w d (Some x) A))) ∙ drop-append_seam (formed w d (Some x) A) []) in
@@ -210,7 +210,7 @@ drain_by w i d e None D es new due made pos sound le by drain_at is due_is made_
     let formed_is : formed w e (Some e) A ≡ F ++ (B ++ M) = formed_drained w e A pos sound later_by ∙ (ap (λ (bs : List BatchData). bs ++ M) later ∙ append_assoc F B M) in
     let all : new ≡ B ++ M = is ∙ (ap (drop (length F)) formed_is ∙ drop-append_seam F (B ++ M)) in
     let due_all : due ≡ B = due_is ∙ (ap (drop (length F)) later ∙ drop-append_seam F B) in
-    let made_all : made ≡ M = made_is ∙ (ap (λ (bs : List BatchData). drop (length bs) new) due_all ∙ (ap (drop (length B)) all ∙ drop-append_seam B M)) in
+    let made_all : made ≡ M = made_is ∙ (ap (drop (length (formed w e None A))) (formed_drained w e A pos sound later_by) ∙ drop-append_seam (formed w e None A) M) in
     let sent1 = all_offered B D in
     let U = unbounded sent1 in
     let es1 = map met_no_room (overflow B D) ++ es in
@@ -226,7 +226,7 @@ pub drain_goes_on : (w : SectionData) (past : List Own) (now : ℕ) → 0 < w.ta
 unfolding state next sender ended
 drain_goes_on w past now pos sound =
     let step = Drain now in
-    drain_by w (intake w past) (clock past) (clock (step ∷ past)) (drained past) (sender w past) (ended w past) (newly_formed w step past) (due_formed w step past) (made_by w step past) pos sound (omega arith) (TakenBy-intake w past) (DrainedBy-intake w past) refl refl refl
+    drain_by w (intake w past) (clock past) (clock (step ∷ past)) (drained past) (sender w past) (ended w past) (newly_formed w step past) (formed_by_timers w step past) (formed_by_step w step past) pos sound (omega arith) (TakenBy-intake w past) (DrainedBy-intake w past) refl refl refl
 
 pub drain_told : (w : SectionData) (past : List Own) (now : ℕ) → answer w past (Drain now) ≡ told (Drain now) (state w past)
 unfolding answer told

@@ -18,10 +18,10 @@ use Rattle.drop_ledger.specs.declared.places.Place.TheVariants.{Undecided, Pendi
 use Rattle.tenant_rules.specs.Arrivals.{Arrival, valid, trace_of}
 use Rattle.tenant_rules.specs.Own.{Own, Post, Turn, Answer, Report, Drain, Retire}
 use Rattle.tenant_rules.specs.Fate.{SettledData, WaitingData, are_sampled}
-use Rattle.tenant_rules.specs.Sender.{BatchData, ActiveData, SenderData, payload_bytes, is_full, most_bytes, finds_no_room, has_consumer, has_tickets, first_retry, due_by, under, without, replaced, retried, oldest, Choice, Retried, Oldest, NoBatch, choice_by, choice, sent_again, sent_first, FateData, Leaves, Stays, fate, in_flight, left_by, answered_by}
+use Rattle.tenant_rules.specs.Sender.{BatchData, ActiveData, SenderData, payload_bytes, is_full, unbounded, most_bytes, finds_no_room, has_consumer, has_tickets, first_retry, due_by, under, without, replaced, retried, oldest, Choice, Retried, Oldest, NoBatch, choice_by, choice, sent_again, sent_first, FateData, Leaves, Stays, fate, in_flight, left_by, answered_by}
 use Rattle.tenant_rules.specs.Batching.{all_sent}
 use Rattle.tenant_rules.specs.Intake.{Verdict, shutting_down, counter_limit, exhausted, accepted}
-use Rattle.tenant_rules.specs.Sending.{sender, ended_in_flight}
+use Rattle.tenant_rules.specs.Sending.{formed_by_timers, all_offered, sender, ended_in_flight}
 use Rattle.decision_cache.specs.Recent.{without as without_id, cached}
 use Rattle.decision_cache.specs.Ids.{is_same}
 use Rattle.decision_cache.specs.Caches.{found}
@@ -29,7 +29,7 @@ use Rattle.tenant_rules.specs.Events.{size_of}
 use Rattle.tenant_rules.specs.State.{State, state}
 use Rattle.tenant_rules.specs.Timers.{recount, queued, all_queued, grouped, flushed, settle, sample, decide_row, remembered, decide, first_due, next_timer, is_batch, one_run, ran, enough, advanced}
 use Rattle.tenant_rules.specs.Machine.{held, sampled_in, has_row, joined, evict_first, evict_waiting, evicted, opens, joins, cached_or_opens, late_or_opens, goes, counted_in, come, all_come, verdict, posted, post, turned_by, all_moved, all_decided, closed, emptied, unbound, drain, effective, acts, next}
-use Rattle.tenant_rules.specs.Limits.{longest, longest_active, IsWithinLimits, StepsStayWithin, FrontsStayWithin, PastsStayWithin, UnboundedRefusesNone, UnboundedPastsRefuseNone}
+use Rattle.tenant_rules.specs.Limits.{longest, longest_active, IsWithinLimits, StepsStayWithin, FrontsStayWithin, PastsStayWithin, UnboundedRefusesNone, UnboundedPastsRefuseNone, DrainsRefuseNone}
 use Rattle.tenant_rules.proofs.Walked.{decide_row-is}
 use Rattle.tenant_rules.proofs.Steps.{IsNext, next_is, under_ticket, flying_under}
 use Rattle.tenant_rules.proofs.AnyStep.{step_follows}
@@ -496,3 +496,37 @@ unbounded_pasts_refuse_none w some wait sound past most b =
     let own = ap (λ (x : SectionData). x.sending_queue.queue_size) (section_is w past) in
     let room : t.sending.queue_size * most_bytes ≤ t.sending.queue_bytes = omega (arith, size, bytes, own, most) in
     unbounded_refuses_none b t room within.queue_short
+
+-- ---- what a drain makes
+
+-- a sender that takes so many batches, and so many bytes of them, of which none is longer than any may be
+record Roomy (size bytes : ℕ) (s : SenderData) : Type 0 where
+  size_is : s.sending.queue_size ≡ size
+  bytes_is : s.sending.queue_bytes ≡ bytes
+  short : longest s.queue ≤ most_bytes
+
+offered_roomy : (size bytes : ℕ) (bs : List BatchData) (s : SenderData) → Roomy size bytes s → Roomy size bytes (all_offered bs s)
+offered_roomy size bytes [] s is = is
+offered_roomy size bytes (b ∷ bs) s is = by_test (finds_no_room b s) refl (λ t t_is. offered_roomy size bytes bs t t_is)
+  where
+    by_test : (f : Bool) → finds_no_room b s ≡ f → ((t : SenderData) → Roomy size bytes t → Roomy size bytes (all_offered bs t)) → Roomy size bytes (all_offered bs (cond f s (record s { queue = s.queue ++ b ∷ [] })))
+    by_test true none rest = rest s is
+    by_test false some rest =
+        rest (record s { queue = s.queue ++ b ∷ [] }) (record { size_is = is.size_is; bytes_is = is.bytes_is; short = longest-push most_bytes s.queue b is.short (finds_room b s some).short })
+
+pub drains_refuse_none : DrainsRefuseNone
+unfolding state
+drains_refuse_none w some wait sound few past first now before after b is =
+    let within = pasts_stay_within w some wait sound past in
+    let D = sender w past in
+    let start : Roomy w.sending_queue.queue_size D.sending.queue_bytes D = record { size_is = within.queue_size_is; bytes_is = refl; short = within.queue_short } in
+    let due = offered_roomy w.sending_queue.queue_size D.sending.queue_bytes (formed_by_timers w (Drain now) past) D start in
+    let t = all_offered (formed_by_timers w (Drain now) past) D in
+    let U = unbounded t in
+    let wide : Roomy w.sending_queue.queue_size U.sending.queue_bytes U = record { size_is = due.size_is; bytes_is = refl; short = due.short } in
+    let made = offered_roomy w.sending_queue.queue_size U.sending.queue_bytes before U wide in
+    let s = all_offered before U in
+    let size : s.sending.queue_size ≡ w.sending_queue.queue_size = made.size_is in
+    let bytes : s.sending.queue_bytes ≡ max t.sending.queue_bytes most_queue_bytes = made.bytes_is in
+    let room : s.sending.queue_size * most_bytes ≤ s.sending.queue_bytes = omega (arith, size, bytes, few) in
+    unbounded_refuses_none b s room made.short

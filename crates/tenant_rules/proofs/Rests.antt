@@ -11,7 +11,7 @@ use Rattle.tenant_rules.specs.Placement.{opened, spans_in_rows}
 use Rattle.tenant_rules.specs.Sender.{BatchData, SenderData, unbounded}
 use Rattle.tenant_rules.specs.Batching.{rules_of, formed, waiting_rows}
 use Rattle.tenant_rules.specs.Intake.{IntakeData, verdict, intake_by, intake}
-use Rattle.tenant_rules.specs.Sending.{EndedData, newly_formed, due_formed, made_by, all_offered, overflow, met_no_room, closes, sender, ended}
+use Rattle.tenant_rules.specs.Sending.{EndedData, newly_formed, formed_by_timers, formed_by_step, all_offered, overflow, met_no_room, is_first_drain, sender, ended}
 use Rattle.tenant_rules.specs.State.{State, state}
 use Rattle.tenant_rules.specs.Ready.{lesser}
 use Rattle.tenant_rules.specs.Timers.{enough, first_due, next_timer}
@@ -83,10 +83,10 @@ drain_rests w past x now sound is =
     let D = sender w past in
     let es = ended w past in
     let new = newly_formed w step past in
-    let due = due_formed w step past in
-    let made = made_by w step past in
-    ap (λ (z : Option ℕ). state_with w (intake w past) (clock (step ∷ past)) (drained (step ∷ past)) (cond (closes step z) (all_offered made (unbounded (all_offered due D))) (all_offered new D))
-    (map met_no_room (cond (closes step z) (overflow due D ++ overflow made (unbounded (all_offered due D))) (overflow new D)) ++ es)) is
+    let due = formed_by_timers w step past in
+    let made = formed_by_step w step past in
+    ap (λ (z : Option ℕ). state_with w (intake w past) (clock (step ∷ past)) (drained (step ∷ past)) (cond (is_first_drain step z) (all_offered made (unbounded (all_offered due D))) (all_offered new D))
+    (map met_no_room (cond (is_first_drain step z) (overflow due D ++ overflow made (unbounded (all_offered due D))) (overflow new D)) ++ es)) is
     ∙ rests_with w (intake w past) x (clock past) (clock (step ∷ past)) (drained past) (drained (step ∷ past)) (sender w past) (ended w past) (newly_formed w step past) sound (omega arith) is (unwrapped x (clock (step ∷ past)) (drained past) is) (DrainedBy-intake w past) refl
 
 post_rests : (w : SectionData) (past : List Own) (x now : ℕ) (arrivals : List Arrival) → AreValidRules (rules_of w) → drained past ≡ Some x → ChangesClockAlone w past (Post now arrivals)

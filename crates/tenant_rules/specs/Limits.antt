@@ -2,14 +2,15 @@
 -- (`num_traces` and `decision_cache` of the Collector's tailsamplingprocessor, `queue_size` and `num_consumers` of its
 -- exporterhelper), its batches that wait have no more bytes together than they may, and no batch of it has more than
 -- any may have.
-use Rattle.std.specs.Prelude.{◌≡◌, ◌<◌, ◌≤◌, ◌+◌, ◌*◌, ◌||◌, nat_le, nat_lt, ℕ, Bool, true, false, min, max, List, [], ◌∷◌, length, if◌then◌else◌}
+use Rattle.std.specs.Prelude.{◌≡◌, ◌<◌, ◌≤◌, ◌+◌, ◌*◌, ◌||◌, nat_le, nat_lt, ℕ, Bool, true, false, min, max, List, [], ◌∷◌, ◌++◌, length, Option, None, if◌then◌else◌}
 use Rattle.tail_settings.specs.Section.{SectionData}
 use Rattle.tail_settings.specs.SendingQueue.{most_queue_bytes}
 use Rattle.span_batcher.specs.Batches.{AreValidRules}
-use Rattle.tenant_rules.specs.Own.{Own}
+use Rattle.tenant_rules.specs.Own.{Own, Drain, drained}
 use Rattle.tenant_rules.specs.Events.{size_of}
-use Rattle.tenant_rules.specs.Sender.{BatchData, ActiveData, SenderData, payload_bytes, most_bytes, finds_no_room}
+use Rattle.tenant_rules.specs.Sender.{BatchData, ActiveData, SenderData, payload_bytes, unbounded, most_bytes, finds_no_room}
 use Rattle.tenant_rules.specs.Batching.{rules_of}
+use Rattle.tenant_rules.specs.Sending.{formed_by_timers, formed_by_step, all_offered, sender}
 use Rattle.tenant_rules.specs.State.{State, state}
 use Rattle.tenant_rules.specs.Timers.{IsFront}
 use Rattle.tenant_rules.specs.Machine.{next}
@@ -67,8 +68,8 @@ PastsStayWithin = (section : SectionData) → 0 < section.tail_sampling.num_trac
 abbrev pub meets_full_queue : BatchData → SenderData → Bool
 meets_full_queue batch s = nat_le s.sending.queue_size (length s.queue) || nat_lt most_bytes (length batch.payload)
 
--- where as many batches as may wait can have as many bytes as they may, bytes refuse none: so where none asked for a
--- bound, and for what a drain makes
+-- where as many batches as may wait can have as many bytes as they may, bytes refuse none, as where none asked for a
+-- bound
 abbrev pub UnboundedRefusesNone : Type 0
 UnboundedRefusesNone = (batch : BatchData) (s : SenderData) → s.sending.queue_size * most_bytes ≤ s.sending.queue_bytes
     → longest s.queue ≤ most_bytes → finds_no_room batch s ≡ meets_full_queue batch s
@@ -79,3 +80,14 @@ UnboundedPastsRefuseNone = (section : SectionData) → 0 < section.tail_sampling
     0 < section.tail_sampling.decision_wait → AreValidRules (rules_of section) → (past : List Own) →
     section.sending_queue.queue_size * most_bytes ≤ bytes_allowed (state section past) → (batch : BatchData) →
     finds_no_room batch (state section past).sender ≡ meets_full_queue batch (state section past).sender
+
+-- and so it is for each of the batches that a first drain makes, whatever the bound was
+abbrev pub DrainsRefuseNone : Type 0
+DrainsRefuseNone = (section : SectionData) → 0 < section.tail_sampling.num_traces →
+    0 < section.tail_sampling.decision_wait → AreValidRules (rules_of section) →
+    section.sending_queue.queue_size ≤ 100000 → (past : List Own) → drained past ≡ None → (now : ℕ) →
+    (before after : List BatchData) (batch : BatchData) →
+    formed_by_step section (Drain now) past ≡ before ++ batch ∷ after →
+    let found = all_offered before (unbounded
+    (all_offered (formed_by_timers section (Drain now) past) (sender section past))) in
+    finds_no_room batch found ≡ meets_full_queue batch found

@@ -21,14 +21,16 @@ formed_by section past = formed section (clock past) (drained past) (intake sect
 abbrev pub newly_formed : SectionData → Own → List Own → List BatchData
 newly_formed section step past = drop (length (formed_by section past)) (formed_by section (step ∷ past))
 
--- those of them that form by its moment, whether it acts or not
-abbrev pub due_formed : SectionData → Own → List Own → List BatchData
-due_formed section step past = drop (length (formed_by section past))
+-- those of them that due timers make
+abbrev pub formed_by_timers : SectionData → Own → List Own → List BatchData
+formed_by_timers section step past = drop (length (formed_by section past))
     (formed section (clock (step ∷ past)) (drained past) (intake section past).spans)
 
--- and those that its act makes
-abbrev pub made_by : SectionData → Own → List Own → List BatchData
-made_by section step past = drop (length (due_formed section step past)) (newly_formed section step past)
+-- and those that the step makes itself
+abbrev pub formed_by_step : SectionData → Own → List Own → List BatchData
+formed_by_step section step past =
+    drop (length (formed section (clock (step ∷ past)) (drained past) (intake section past).spans))
+    (formed_by section (step ∷ past))
 
 -- batches are offered, one after the other
 abbrev pub all_offered : List BatchData → SenderData → SenderData
@@ -51,29 +53,29 @@ acted moment (Drain now) s = s
 acted moment (Retire now) s = s
 
 -- whether a step drains a tenant that wasn't drained before
-abbrev pub closes : Own → Option ℕ → Bool
-closes (Post now arrivals) before = false
-closes (Turn now) before = false
-closes (Answer now ticket word answer) before = false
-closes (Report now) before = false
-closes (Drain now) None = true
-closes (Drain now) (Some moment) = false
-closes (Retire now) before = false
+abbrev pub is_first_drain : Own → Option ℕ → Bool
+is_first_drain (Post now arrivals) before = false
+is_first_drain (Turn now) before = false
+is_first_drain (Answer now ticket word answer) before = false
+is_first_drain (Report now) before = false
+is_first_drain (Drain now) None = true
+is_first_drain (Drain now) (Some moment) = false
+is_first_drain (Retire now) before = false
 
 -- the sender just before a step acts: those batches that a drain makes find a queue that bytes don't bound, since what
 -- a tenant holds would be lost else, however well its back end is
 abbrev pub before_acting : SectionData → Own → List Own → SenderData → SenderData
 before_acting section step past s =
-    if closes step (drained past) then
-    all_offered (made_by section step past) (unbounded (all_offered (due_formed section step past) s))
+    if is_first_drain step (drained past) then
+    all_offered (formed_by_step section step past) (unbounded (all_offered (formed_by_timers section step past) s))
     else all_offered (newly_formed section step past) s
 
--- those that find no room
-abbrev pub left_over : SectionData → Own → List Own → SenderData → List BatchData
-left_over section step past s =
-    if closes step (drained past) then
-    overflow (due_formed section step past) s
-    ++ overflow (made_by section step past) (unbounded (all_offered (due_formed section step past) s))
+-- those that find no room at a step
+abbrev pub overflow_at : SectionData → Own → List Own → SenderData → List BatchData
+overflow_at section step past s =
+    if is_first_drain step (drained past) then
+    overflow (formed_by_timers section step past) s
+    ++ overflow (formed_by_step section step past) (unbounded (all_offered (formed_by_timers section step past) s))
     else overflow (newly_formed section step past) s
 
 -- the sender after own steps
@@ -120,4 +122,4 @@ unfoldable pub ended : SectionData → List Own → List EndedData
 ended section [] = []
 ended section (step ∷ past) =
     ended_at (clock (step ∷ past)) step (before_acting section step past (sender section past))
-    ++ (map met_no_room (left_over section step past (sender section past)) ++ ended section past)
+    ++ (map met_no_room (overflow_at section step past (sender section past)) ++ ended section past)

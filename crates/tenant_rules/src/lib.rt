@@ -20,7 +20,7 @@ ghost use Rattle.tenant_rules.specs.InOrder.{RowsWaitInOrder, NoneIsDue};
 ghost use Rattle.tenant_rules.specs.Law.{ReportsFollow, TurnsFollow, AnswersFollow, DrainsFollow};
 ghost use Rattle.tenant_rules.specs.Law.{RetiresFollow, PostsFollow, StepsFollow};
 ghost use Rattle.tenant_rules.specs.Sum.{FirstIsCounted, StepsCount, FrontsCount, PastsCount};
-ghost use Rattle.tenant_rules.specs.Limits.{StepsStayWithin, FrontsStayWithin, PastsStayWithin, UnboundedRefusesNone, UnboundedPastsRefuseNone};
+ghost use Rattle.tenant_rules.specs.Limits.{StepsStayWithin, FrontsStayWithin, PastsStayWithin, UnboundedRefusesNone, UnboundedPastsRefuseNone, DrainsRefuseNone};
 ghost use Rattle.tenant_rules.specs.Least.{ReadyIsLeast, ReadyIsNext, DueTurnsAct};
 ghost use Rattle.tenant_rules.specs.Others.{MomentsCount, OthersDontCount, RepliesDontChange};
 ghost use Rattle.tenant_rules.specs.AfterDrain.{DrainedRests};
@@ -94,14 +94,15 @@ pub fn counted_once()
 
 /// No state has more rows, ids of decided traces, batches that wait and active batches than its settings allow, nor
 /// more bytes in batches that wait, nor a batch that waits or is active of more than 32 MiB, whichever step came last,
-/// and where some first timers have run, as after refused memory. Where bytes aren't bounded, as after a drain, no
-/// batch is refused for them: a law over the definitions and the machine.
+/// and where some first timers have run, as after refused memory. Where bytes aren't bounded no batch is refused
+/// for them, nor is one that a drain makes: a law over the definitions and the machine.
 pub fn limits_hold()
     ensures steps { StepsStayWithin }
     ensures fronts { FrontsStayWithin }
     ensures pasts { PastsStayWithin }
     ensures unbounded { UnboundedRefusesNone }
     ensures unbounded_pasts { UnboundedPastsRefuseNone }
+    ensures drains { DrainsRefuseNone }
 {}
 
 /// `ready` is the least moment at which something is due, and none where nothing is: that of the next timer or of the
