@@ -1,6 +1,7 @@
 -- A bound of the bytes that the batches of each tenant have together while they wait to be sent: `queue_size` with
 -- `sizer: bytes` of the Collector's exporterhelper (its README, "Sending Queue"), beside the number of batches and not in
--- its place. No document says it, and it is one for all tenants: this project's own rule.
+-- its place. No document says it, it is one for all tenants, and what a drain makes isn't bounded: this project's own
+-- rule.
 use Rattle.std.specs.Prelude.{ℕ, map}
 use Rattle.tail_settings.specs.Section.{SectionData}
 use Rattle.tail_settings.specs.Settings.{TenantData, SettingsData}

@@ -12,7 +12,8 @@ use indexmap::IndexMap;
 
 impl Settings {
     /// Bounds the bytes that the batches of each tenant have together while they wait to be sent: of those that are
-    /// present, and of those that come. More than [`MOST_QUEUE_BYTES`] are taken as so many. It takes no memory.
+    /// present, and of those that come. What a drain makes isn't bounded. More than [`MOST_QUEUE_BYTES`] are taken as
+    /// so many. It takes no memory.
     pub fn bound_queues(&mut self, bytes: u64)
         ensures { settings_view self.new ≡ bounded (min bytes most_queue_bytes)
             (settings_view self.old) }

@@ -15,8 +15,9 @@ pub const MOST_QUEUE_BYTES: u64 = 1 << 42;
 pub struct SendingQueue {
     /// How many batches wait at most, 1 to 100,000.
     pub queue_size: u32,
-    /// How many bytes those that wait have together at most, 0 to [`MOST_QUEUE_BYTES`]. No key says it: it is
-    /// [`MOST_QUEUE_BYTES`] unless [`Settings::bound_queues`](crate::Settings::bound_queues) was called.
+    /// How many bytes those that wait have together at most, 0 to [`MOST_QUEUE_BYTES`], but for those that a drain
+    /// makes. No key says it: it is [`MOST_QUEUE_BYTES`] unless
+    /// [`Settings::bound_queues`](crate::Settings::bound_queues) was called.
     pub queue_bytes: u64,
     /// How many batches are in flight or waiting for a retry at most, 1 to 1,000.
     pub num_consumers: u32,
