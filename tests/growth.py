@@ -130,9 +130,27 @@ def attributes_of_two_members(n):
 
 
 def attributes_of_two_values(n):
-    """The same with two values each, of which one is made first."""
+    """The same with two values each, of which the last is put."""
     text = piece(9, piece(1, b"k") + piece(2, SOME_VALUE) * 2)
     return tenant(), post(0, request([ids(1, 1) + text * n])) + DUE, "job a 1 "
+
+
+def attributes_of_two_values_joined(n):
+    """The same with an array in the first of them, so that one is made of both first."""
+    text = piece(9, piece(1, b"k") + piece(2, piece(5, b"")) + piece(2, SOME_VALUE))
+    return tenant(), post(0, request([ids(1, 1) + text * n])) + DUE, "job a 1 "
+
+
+def values_of_attribute(n):
+    """One attribute of n values, of which the last is put."""
+    text = piece(1, b"k") + piece(2, SOME_VALUE) * n
+    return tenant(), post(0, request([ids(1, 1) + piece(9, text)])) + DUE, "job a 1 "
+
+
+def values_of_attribute_joined(n):
+    """The same with an array in the first of them, so that one is made of all first."""
+    text = piece(1, b"k") + piece(2, piece(5, b"")) + piece(2, SOME_VALUE) * n
+    return tenant(), post(0, request([ids(1, 1) + piece(9, text)])) + DUE, "job a 1 "
 
 
 def attributes_of_a_resource(n):
@@ -326,6 +344,9 @@ SHAPES = {
     "the same, apart": (attributes_to_be_read_apart, 12_500),
     "attributes of two members": (attributes_of_two_members, 12_500),
     "attributes of two values": (attributes_of_two_values, 12_500),
+    "the same, joined": (attributes_of_two_values_joined, 12_500),
+    "values of an attribute": (values_of_attribute, 50_000),
+    "the same, all joined": (values_of_attribute_joined, 50_000),
     "attributes of a resource put anew": (attributes_of_a_resource, 12_500),
     "events of two counts": (events_of_two_counts, 12_500),
     "two values at each level": (values_at_each_level, 250),

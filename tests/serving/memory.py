@@ -26,9 +26,10 @@ EMPTY = piece(1, b"")
 URL = piece(3, b"u")
 # A count of 1 in two bytes, of a resource and of a scope, so that neither is canonical.
 LONG_COUNT, LONG_COUNT_OF_SCOPE = b"\x10\x81\x00", b"\x20\x81\x00"
-# Two values of an attribute; a bool that isn't written as one; and two arrays in one value, for which what it stands in
-# is read as a message.
+# Two values of an attribute, of which the last is put, or one that is made of both; a bool that isn't written as one; and
+# two arrays in one value, for which what it stands in is read as a message.
 TWO_VALUES = piece(1, b"k") + 2 * piece(2, piece(1, b"v"))
+TWO_VALUES_JOINED = piece(1, b"k") + piece(2, piece(5, b"")) + piece(2, piece(1, b"v"))
 BOOL_OF_TWO = piece(1, b"k") + piece(2, number_field(2, 2))
 TWO_ARRAYS = piece(1, b"k") + piece(2, 2 * piece(5, b""))
 # An array in each of two values, for which this attribute alone is read as a message.
@@ -123,8 +124,9 @@ SHAPES = {
     "attributes of an event whose count stands twice": (piece(3, b""), in_span(number=11, behind=TWICE_COUNTED), 5),
     "attributes of a link whose count stands twice": (piece(4, b""), in_span(number=13, behind=2 * number_field(5, 1)), 5),
     "attributes of two values": (piece(9, TWO_VALUES), in_span(), 5),
-    "attributes beside two of two values": (piece(9, b""), in_span(before=2 * piece(9, TWO_VALUES)), 5),
-    "lists in lists beside two of two values": (lists(9), in_span(before=2 * piece(9, TWO_VALUES)), 5),
+    "attributes of two values that are joined": (piece(9, TWO_VALUES_JOINED), in_span(), 5),
+    "attributes beside two of two values": (piece(9, b""), in_span(before=2 * piece(9, TWO_VALUES_JOINED)), 5),
+    "lists in lists beside two of two values": (lists(9), in_span(before=2 * piece(9, TWO_VALUES_JOINED)), 5),
     "attributes of a resource with a bool of two": (EMPTY, under(piece(1, BOOL_OF_TWO)), 5),
     "attributes of an event with a bool of two": (piece(3, b""), in_span(number=11, behind=piece(3, BOOL_OF_TWO)), 5),
     "attributes before an event with a bool of two": (
