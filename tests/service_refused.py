@@ -383,7 +383,7 @@ class Going(Coming):
 class Draining(Case):
     """The end of the input, where spans wait."""
 
-    GOOD, MEMORY, EACH = {"its end"}, set(), True
+    GOOD, MEMORY, EACH, SPANS = {"its end"}, set(), True, 4
 
     def begin(self):
         self.arrives(self.taken("a"))
@@ -398,7 +398,27 @@ class Draining(Case):
         return "its end" if end == self.wanted() else end
 
     def finish(self):
-        check("spans that came", len({span for text in self.back_end.bodies() for span in SPAN.findall(text)}), 4)
+        check("spans that came", len({span for text in self.back_end.bodies() for span in SPAN.findall(text)}), self.SPANS)
+
+
+class DrainingBounded(Draining):
+    """The same where what a drain makes has more bytes than may wait: three batches of 34 bytes, and what is pending, which
+    has 94."""
+
+    OPTIONS, SPANS = ("--queue-bytes", "68"), 7
+
+    def sections(self):
+        return [tenant("a", self.back_end), tenant("b", self.back_end, wait=DAY, batch=1),
+                tenant("c", self.back_end, timeout=DAY)]
+
+    def begin(self):
+        super().begin()
+        self.taken("c", 3)
+        wait_for(lambda: counts_of(self.service.report("c"))["pending"] == 3, "they are pending")
+
+    def wanted(self):
+        status, told, said = super().wanted()
+        return status, told + line_of("c", accepted=3, exported=3), said
 
 
 class AuditedEnd(Draining):
@@ -558,7 +578,7 @@ class Faulty(Added):
 
 
 CASES = {case.__name__: case for case in (Post, Large, Audited, Chunked, Cached, Report, Coming, Awaited, Going, Draining,
-                                           AuditedEnd, DrainedByCall, *LOOKED, Added, Deleted, Faulty)}
+                                           DrainingBounded, AuditedEnd, DrainedByCall, *LOOKED, Added, Deleted, Faulty)}
 
 
 class Loaded(Case):

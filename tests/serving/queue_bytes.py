@@ -73,17 +73,25 @@ def larger_alone(folder):
 
 
 def at_the_end(folder):
-    """What a drain makes isn't bounded: of four batches that form at once all are sent, and those of a tenant that leaves."""
-    with BackEnd() as first, BackEnd() as second, Service(
-            folder, [tenant("a", first, wait=FOREVER), tenant("b", second, wait=FOREVER)], *TWO) as service:
+    """What a drain makes isn't bounded: of four batches that form at once all are sent, and those of a tenant that leaves; and
+    so is what was pending, which has more bytes than may wait."""
+    pending = request(*((b"\1" * 16, bytes([number]) * 8, b"") for number in range(1, 4)))
+    with BackEnd() as first, BackEnd() as second, BackEnd() as third, Service(folder, [
+            tenant("a", first, wait=FOREVER), tenant("b", second, wait=FOREVER), tenant("c", third, timeout=FOREVER)],
+            *TWO) as service:
         for number in range(1, 5):
             check("a post", service.post("a", body(number, number)), (200, b""))
             check("a post", service.post("b", body(number, number)), (200, b""))
+        check("its bytes", len(pending), 94)
+        check("a post", service.post("c", pending), (200, b""))
+        is_told(service, "c", accepted=3, pending=3)
         service.say("retire a\n")
         check("it leaves", service.hear(), line_of("a", accepted=4, exported=4))
-        check("the end", service.end(), (0, line_of("b", accepted=4, exported=4), b""))
+        done = line_of("b", accepted=4, exported=4) + line_of("c", accepted=3, exported=3)
+        check("the end", service.end(), (0, done, b""))
         for back_end in (first, second):
             check("what was sent", back_end.bodies(), [body(number, number) for number in range(1, 5)])
+        check("what was pending", third.bodies(), [pending])
 
 
 def held_by_one_that_hangs(folder, *options):
