@@ -402,14 +402,13 @@ class Draining(Case):
 
 
 class DrainingBounded(Draining):
-    """The same where what a drain makes has more bytes than may wait: three batches of 34 bytes, and what is pending, which
-    has 94."""
+    """The same where each batch that a drain makes has more bytes than may wait, 94 of 68: of a trace, and of what is
+    pending."""
 
     OPTIONS, SPANS = ("--queue-bytes", "68"), 7
 
     def sections(self):
-        return [tenant("a", self.back_end), tenant("b", self.back_end, wait=DAY, batch=1),
-                tenant("c", self.back_end, timeout=DAY)]
+        return [*super().sections(), tenant("c", self.back_end, timeout=DAY)]
 
     def begin(self):
         super().begin()
