@@ -83,7 +83,7 @@ number_of (Some field) = field.number
 abbrev pub merges : ℕ → ℕ → Bool
 merges m n = (m == 5 && n == 5) || (m == 6 && n == 6)
 
--- one member may be put for the other: it is a member where that is one, and both are read as the same
+-- one member may be put for the other: it has the same number, is a member where that is one, and is read as the same
 pub record IsPutFor (put member : Entry) : Type 0 where
   pub number : put.number ≡ member.number
   pub known : IsMember member → IsMember put

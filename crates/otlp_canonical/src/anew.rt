@@ -139,7 +139,7 @@ pub struct Pair<'a> {
     /// The last key that stands in it, empty where there is none.
     pub key: &'a [u8],
 
-    /// Its value, or that which is read as all of its values; empty where there is none or no such.
+    /// Its value, or the one that is read as all of its values; empty where none is.
     pub value: &'a [u8],
 
     /// A value stands in it.
@@ -236,15 +236,29 @@ struct Chosen<'a> {
     unknown: usize,
 }
 
-/// Whether a value's field, so spelled, can be read by itself, and leaves nothing to another in the rest, unless that
-/// is merged with it. There is room for so many levels, the value's own among them. An array and a list are looked at
-/// as canonical text is.
+/// Whether it is asked if a value's field gives way to one in the rest: where something stands there, and of an array
+/// or a list, which are looked into for that, where a member stands next, as its first byte says. One that stays would
+/// be looked into once a level else.
+#[inline(always)]
+fn may_give_way(field: Field<'_>, rest: &[u8]) -> bool {
+    match field.number {
+        5 | 6 => matches!(
+            rest.first(),
+            Some(0x0a | 0x10 | 0x18 | 0x21 | 0x2a | 0x32 | 0x3a)
+        ),
+        _ => !rest.is_empty(),
+    }
+}
+
+/// Whether a value's field, so spelled, can be read by itself, and leaves nothing to another in the rest, if one stands
+/// there, unless that is merged with it. There is room for so many levels, the value's own among them. An array and a
+/// list are looked at as canonical text is.
 #[inline(always)]
 fn gives_way(field: Field<'_>, spelled: &[u8], rest: &[u8], room: u32) -> bool
     ensures { result ≡ true → IsField (101 - room) spelled.now (entry field.entry)
         → GivesWay (room - 1) (Some (entry field.entry)) }
 {
-    if rest.is_empty() {
+    if !may_give_way(field, rest) {
         return false;
     }
     match field.value {
@@ -318,7 +332,7 @@ fn split_value(text: &[u8], room: u32) -> Option<Chosen<'_>>
     Some(Chosen { member, unknown })
 }
 
-/// An attribute of whose fields at most one is a value, and the member of that which counts.
+/// An attribute with one value at most, or one that is read as all of its values, and the member of that which counts.
 #[derive(Clone, Copy)]
 pub struct Parts<'a> {
     /// Its key and its value.
@@ -328,7 +342,7 @@ pub struct Parts<'a> {
     chosen: Chosen<'a>,
 }
 
-/// The parts of the attribute, if it has one value at most, of whose members one counts.
+/// The parts of the attribute, if it has one value at most, or one that is read as all, of whose members one counts.
 #[inline(always)]
 pub fn parts_of(text: &[u8], room: u32) -> Option<Parts<'_>>
     ensures { IfSome result (λ parts. HasParts room text.now parts) }
@@ -554,9 +568,9 @@ fn put_several(
 }
 
 /// Appends the attribute's text anew, which stands in a value put together of several if it is `joined`. Tells whether
-/// it did, as it does where no array and no list stands twice in it or before another member, nothing that isn't known
-/// in an array or a list, and no several values in one of several values. What is left to the reader is sound all the
-/// same.
+/// it did, as it does where in no value an array stands before an array, a list before a list, or one that isn't
+/// canonical before another member, nothing that isn't known stands in an array or a list, nor right behind one with a
+/// member to follow, and no several values in one of several values. What is left to the reader is sound all the same.
 #[cycle(put)]
 pub fn put_pair(
     alloc: Global,

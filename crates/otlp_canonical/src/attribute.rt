@@ -70,8 +70,8 @@ fn holds_more(value: &[u8], room: u32) -> bool {
     }
 }
 
-/// Whether another value or a key stands behind the value that follows a key of so many bytes, with a length of one
-/// byte; or that value holds more.
+/// Whether something else than a value stands behind a key of so many bytes, with a length of one byte, or another
+/// value or a key behind its value; or that value holds more.
 #[inline(always)]
 fn goes_on(text: &[u8], key_size: u8, room: u32) -> bool {
     let Some((_key, behind)) = split(text, usize::from(key_size) + 2) else {
@@ -84,9 +84,10 @@ fn goes_on(text: &[u8], key_size: u8, room: u32) -> bool {
 }
 
 /// Whether the attribute's text can't be canonical, by what it begins with: an empty key, a key whose length is longer
-/// than it has to be, a value behind which a key or a value stands, or a field that isn't known, behind which one of
-/// these stands as a rule. Nor can it be, as a rule, where its value begins with a field that isn't known, or with a
-/// member and more. With room for some levels in the value, that is looked into where it is an array or a list.
+/// than it has to be, what is no value behind the key, a value behind which a key or a value stands, or a field that
+/// isn't known, behind which one of these stands as a rule. Nor can it be, as a rule, where its value begins with a
+/// field that isn't known, or with a member and more. With room for some levels in the value, an array or a list at its
+/// front is looked into.
 #[inline(always)]
 pub fn begins_otherwise(text: &[u8], room: u32) -> bool {
     if let Some(size) = short_key(text) {
@@ -167,7 +168,7 @@ pub fn is_respelled(text: &[u8], span: usize, room: u32) -> bool {
 }
 
 /// The attribute at the front, if it has a length of one byte and isn't respelled, and the rest. The span has so many
-/// bytes.
+/// bytes. There is room for so many levels, the attribute's own among them.
 #[inline(always)]
 pub fn short_attribute(text: &[u8], span: usize, room: u32) -> Option<(&[u8], &[u8])>
     ensures parts { IfSome result (λ x. text.now ≡ bytes_field 9 x.0.now ++ x.1.now) }

@@ -257,10 +257,11 @@ pub fn bare_copy(
 ///
 /// A default is looked for in the span and in its status, events and links, and in no attribute. What holds of defaults
 /// holds of lengths that are longer than they have to be, of the messages and attributes in the span, and in a span of
-/// up to 16 KiB of attributes that show by what they begin with that they aren't canonical. An event in which there is
-/// one of these may begin with its name, and its time behind that. Where one was found, what else isn't canonical in a
-/// message inside the span is put anew. The text may have some bytes of room more than it takes: at most 38 for each
-/// default, 18 for each length, and those of a key or a value's member that stands in an attribute before another.
+/// up to 16 KiB of attributes that show by what they begin with, or in an array or a list that their value is, that
+/// they aren't canonical. An event in which there is one of these may begin with its name, and its time behind that.
+/// Where one was found, what else isn't canonical in a message inside the span is put anew. The text may have some
+/// bytes of room more than it takes: at most 38 for each default, 18 for each length, and those of a key, a value or a
+/// value's member that stands in an attribute before another.
 pub fn without_defaults(
     alloc: Global,
     text: &[u8],

@@ -61,7 +61,7 @@ offered batch s = if is_full batch s then s else record s { queue = s.queue ++ b
 abbrev pub bounded : ℕ → SenderData → SenderData
 bounded bytes s = record s { sending = record (s.sending) { queue_bytes = bytes } }
 
--- bytes are no bound for them, unless more were allowed than any queue has
+-- they may have as many bytes as any queue has, or more where more were allowed
 abbrev pub unbounded : SenderData → SenderData
 unbounded s = bounded (max s.sending.queue_bytes most_queue_bytes) s
 

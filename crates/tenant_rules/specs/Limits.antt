@@ -8,9 +8,9 @@ use Rattle.tail_settings.specs.SendingQueue.{most_queue_bytes}
 use Rattle.span_batcher.specs.Batches.{AreValidRules}
 use Rattle.tenant_rules.specs.Own.{Own, Drain, drained}
 use Rattle.tenant_rules.specs.Events.{size_of}
-use Rattle.tenant_rules.specs.Sender.{BatchData, ActiveData, SenderData, payload_bytes, unbounded, most_bytes, finds_no_room}
+use Rattle.tenant_rules.specs.Sender.{BatchData, ActiveData, SenderData, payload_bytes, most_bytes, finds_no_room}
 use Rattle.tenant_rules.specs.Batching.{rules_of}
-use Rattle.tenant_rules.specs.Sending.{formed_by_timers, formed_by_step, all_offered, sender}
+use Rattle.tenant_rules.specs.Sending.{formed_by_step, all_offered, found_by_drain, sender}
 use Rattle.tenant_rules.specs.State.{State, state}
 use Rattle.tenant_rules.specs.Timers.{IsFront}
 use Rattle.tenant_rules.specs.Machine.{next}
@@ -88,6 +88,5 @@ DrainsRefuseNone = (section : SectionData) → 0 < section.tail_sampling.num_tra
     section.sending_queue.queue_size ≤ 100000 → (past : List Own) → drained past ≡ None → (now : ℕ) →
     (before after : List BatchData) (batch : BatchData) →
     formed_by_step section (Drain now) past ≡ before ++ batch ∷ after →
-    let found = all_offered before (unbounded
-    (all_offered (formed_by_timers section (Drain now) past) (sender section past))) in
+    let found = all_offered before (found_by_drain section (Drain now) past (sender section past)) in
     finds_no_room batch found ≡ meets_full_queue batch found

@@ -21,16 +21,17 @@ formed_by section past = formed section (clock past) (drained past) (intake sect
 abbrev pub newly_formed : SectionData → Own → List Own → List BatchData
 newly_formed section step past = drop (length (formed_by section past)) (formed_by section (step ∷ past))
 
--- those of them that due timers make
+-- the batches that have formed by a step's moment, before it acts
+abbrev pub formed_until : SectionData → Own → List Own → List BatchData
+formed_until section step past = formed section (clock (step ∷ past)) (drained past) (intake section past).spans
+
+-- those of the newly formed that due timers make
 abbrev pub formed_by_timers : SectionData → Own → List Own → List BatchData
-formed_by_timers section step past = drop (length (formed_by section past))
-    (formed section (clock (step ∷ past)) (drained past) (intake section past).spans)
+formed_by_timers section step past = drop (length (formed_by section past)) (formed_until section step past)
 
 -- and those that the step makes itself
 abbrev pub formed_by_step : SectionData → Own → List Own → List BatchData
-formed_by_step section step past =
-    drop (length (formed section (clock (step ∷ past)) (drained past) (intake section past).spans))
-    (formed_by section (step ∷ past))
+formed_by_step section step past = drop (length (formed_until section step past)) (formed_by section (step ∷ past))
 
 -- batches are offered, one after the other
 abbrev pub all_offered : List BatchData → SenderData → SenderData
@@ -62,12 +63,16 @@ is_first_drain (Drain now) None = true
 is_first_drain (Drain now) (Some moment) = false
 is_first_drain (Retire now) before = false
 
--- the sender just before a step acts: those batches that a drain makes find a queue that bytes don't bound, since what
--- a tenant holds would be lost else, however well its back end is
+-- the sender that those batches find which a first drain makes: bytes don't bound its queue, since what a tenant holds
+-- would be lost else, however well its back end is
+abbrev pub found_by_drain : SectionData → Own → List Own → SenderData → SenderData
+found_by_drain section step past s = unbounded (all_offered (formed_by_timers section step past) s)
+
+-- the sender just before a step acts
 abbrev pub before_acting : SectionData → Own → List Own → SenderData → SenderData
 before_acting section step past s =
     if is_first_drain step (drained past) then
-    all_offered (formed_by_step section step past) (unbounded (all_offered (formed_by_timers section step past) s))
+    all_offered (formed_by_step section step past) (found_by_drain section step past s)
     else all_offered (newly_formed section step past) s
 
 -- those that find no room at a step
@@ -75,7 +80,7 @@ abbrev pub overflow_at : SectionData → Own → List Own → SenderData → Lis
 overflow_at section step past s =
     if is_first_drain step (drained past) then
     overflow (formed_by_timers section step past) s
-    ++ overflow (formed_by_step section step past) (unbounded (all_offered (formed_by_timers section step past) s))
+    ++ overflow (formed_by_step section step past) (found_by_drain section step past s)
     else overflow (newly_formed section step past) s
 
 -- the sender after own steps

@@ -94,8 +94,9 @@ pub fn counted_once()
 
 /// No state has more rows, ids of decided traces, batches that wait and active batches than its settings allow, nor
 /// more bytes in batches that wait, nor a batch that waits or is active of more than 32 MiB, whichever step came last,
-/// and where some first timers have run, as after refused memory. Where bytes aren't bounded no batch is refused
-/// for them, nor is one that a drain makes: a law over the definitions and the machine.
+/// and where some first timers have run, as after refused memory. Where bytes aren't bounded no batch is refused for
+/// them, and of those that a first drain makes none is, whatever the bound was: a law over the definitions and the
+/// machine.
 pub fn limits_hold()
     ensures steps { StepsStayWithin }
     ensures fronts { FrontsStayWithin }
