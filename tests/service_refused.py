@@ -402,22 +402,19 @@ class Draining(Case):
 
 
 class DrainingBounded(Draining):
-    """The same where each batch that a drain makes has more bytes than may wait, 94 of 68: of a trace, and of what is
-    pending."""
+    """The same where three batches of a drain, of 94, 34 and 34 bytes, have more together than may wait. Each of them may
+    wait: while a drain is refused memory they form one after another, within that."""
 
-    OPTIONS, SPANS = ("--queue-bytes", "68"), 7
-
-    def sections(self):
-        return [*super().sections(), tenant("c", self.back_end, timeout=DAY)]
+    OPTIONS, SPANS = ("--queue-bytes", "100"), 6
 
     def begin(self):
         super().begin()
-        self.taken("c", 3)
-        wait_for(lambda: counts_of(self.service.report("c"))["pending"] == 3, "they are pending")
+        for _ in range(2):
+            time.sleep(REST)
+            self.taken("b")
 
     def wanted(self):
-        status, told, said = super().wanted()
-        return status, told + line_of("c", accepted=3, exported=3), said
+        return (0, line_of("a", accepted=1, exported=1) + line_of("b", accepted=5, exported=5), b"")
 
 
 class AuditedEnd(Draining):
