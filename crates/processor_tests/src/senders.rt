@@ -84,6 +84,16 @@ fn has_bytes_left(queue: &SendQueue, wanted: &Wanted<'_>) -> bool {
     is(wanted, "left", queue.bytes_left(), 0)
 }
 
+/// Whether those that wait have no more bytes than this, once bytes are no bound, so that they may have as many again,
+/// and as many more as wanted.
+fn bounds_again(queue: &mut SendQueue, bytes: u64, wanted: &Wanted<'_>) -> bool {
+    if bytes > MOST_QUEUE_BYTES || bytes + queue.bytes_left() < MOST_QUEUE_BYTES {
+        return false;
+    }
+    queue.bound_bytes(bytes);
+    has_bytes_left(queue, wanted)
+}
+
 fn is_ready(ready: Option<u64>, wanted: &Wanted<'_>) -> bool {
     match ready {
         Some(moment) => is(wanted, "at", moment, 0),
@@ -132,6 +142,7 @@ fn goes(alloc: Global, queue: &mut SendQueue, line: &'static str) -> Result<bool
         "room" => Ok(has_room(queue, &wanted)),
         "bytes" => Ok(has_bytes_left(queue, &wanted)),
         "lift" => Ok(is(&wanted, "was", queue.lift_bound(), 0)),
+        "bound" => Ok(bounds_again(queue, moment, &wanted)),
         _ => settles(alloc, queue, asked, &wanted),
     }
 }
@@ -280,6 +291,43 @@ fn a_bound_of_bytes_is_put_back(rt: HostRuntime) -> Result<(), Fail> {
     assert!(rt; queue.offer(batch(1000, "abc")).is_err());
     queue.lift_bound();
     assert!(rt; queue.offer(batch(1000, "abc")).is_ok());
+    Ok(())
+}
+
+/// What waits already counts for a bound that is put back, and what was offered meanwhile and taken back doesn't.
+const PUT_BACK: &str = "\
+offer 1000 abcd = taken
+offer 1000 ef = taken
+bytes 1000 = left 1
+lift 1000 = was 7
+bytes 1000 = left 4398046511098
+offer 1000 ghijk = taken
+bytes 1000 = left 4398046511093
+back = ghijk
+bytes 1000 = left 4398046511098
+bound 7 = left 1
+offer 1000 gh = full 2
+lift 1000 = was 7
+bound 6 = left 0
+offer 1000 g = full 1
+job 1000 = abcd 1
+bytes 1000 = left 4
+offer 1000 ghijk = full 5
+offer 1000 ghij = taken
+bytes 1000 = left 0
+lift 1000 = was 6
+bound 9 = left 3
+answer 1 1000 0 200 - - = taken 4 0
+job 1000 = ef 2
+answer 2 1000 0 200 - - = taken 2 0
+job 1000 = ghij 3
+answer 3 1000 0 200 - - = taken 4 0
+bytes 1000 = left 9";
+
+#[test]
+fn a_bound_of_bytes_is_put_back_behind_batches_that_wait(rt: HostRuntime) -> Result<(), Fail> {
+    let queue = SendQueue::new(rt.alloc(), &SEVEN_BYTES, &ENDLESS)?;
+    tell(&rt, rt.alloc(), queue, PUT_BACK)?;
     Ok(())
 }
 
