@@ -125,10 +125,10 @@ def large_bodies():
 def shards():
     """Two tenants share a shard, have one each, and have their own policies; each has its turn, however many there are."""
     posts = f"post a 0 {SPAN}\npost b 0 {OTHER}\n"
-    told = f"reply a 200 -\nreply b 200 -\njob a 1 {SPAN}\njob b 1 {OTHER}\n"
-    check("one shard", ONE_SHARD, posts + "turn 0 1000\nturn 0 1000\n", told)
-    check("three shards", THREE_SHARDS, posts + "turn 0 1000\nturn 1 1000\n", told)
-    check("two policies", TWO_POLICIES, posts + "turn 0 1000\nturn 0 1000\n", told)
+    told = f"reply a 200 -\nreply b 200 -\njob a 1 {SPAN}\njob b 1 {OTHER}\n" + counted("b", accepted=1, active=1) + "\n"
+    check("one shard", ONE_SHARD, posts + "turn 0 1000\nturn 0 1000\nreport b 1000\n", told)
+    check("three shards", THREE_SHARDS, posts + "turn 0 1000\nturn 1 1000\nreport b 1000\n", told)
+    check("two policies", TWO_POLICIES, posts + "turn 0 1000\nturn 0 1000\nreport b 1000\n", told)
     check("idle shards", THREE_SHARDS, "turn 0 5\nturn 1 5\nturn 2 5\n", "idle 0\nidle 1\nidle 2\n")
     # the first of the twelve waits a second longer than the others
     names = [f"t{number}" for number in range(12)]

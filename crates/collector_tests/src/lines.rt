@@ -1,5 +1,6 @@
 //! Steps and outcomes of a shard as lines of a script say them. Tenants 0, 1 and 2 are `a`, `b` and `c`, and `h` is 7.
 
+use crate::sections::Fixture;
 use bytes::Bytes;
 use otlp_prepare::prepare;
 use replay_script::{
@@ -75,14 +76,14 @@ fn digits_of<'a>(word: &'a str) -> &'a str {
 }
 
 /// The line with its body's digits in place of its name, which is the last word, and this end.
-fn spelled(alloc: Global, line: &str, end: &str) -> Result<String, Fail> {
-    let (first, last) = line.rsplit_once(' ').ok_or("a line of one word")?;
-    Ok(format!(in alloc; "{first} {}{end}", digits_of(last))?)
+fn spelled(alloc: Global, line: &str, end: &str) -> Result<String, AllocError> {
+    let (first, last) = line.rsplit_once(' ').unwrap_or((line, ""));
+    format!(in alloc; "{first} {}{end}", digits_of(last))
 }
 
 /// A story's line, which is a command, ` = ` and the line that answers it.
-pub fn parts_of(line: &str) -> Result<(&str, &str), Fail> {
-    Ok(line.split_once(" = ").ok_or("a line without its answer")?)
+pub fn parts_of(line: &str) -> (&str, &str) {
+    line.split_once(" = ").unwrap_or((line, ""))
 }
 
 fn number_of(letter: Option<&u8>) -> u32 {
@@ -189,7 +190,7 @@ pub fn steps_of<R: Threads + Sync>(
 ) -> Result<Vec<Step>, Fail> {
     let mut steps = Vec::new(alloc);
     for line in story.lines() {
-        let (step, _) = parts_of(line)?;
+        let (step, _) = parts_of(line);
         steps.push(step_of(rt, alloc, settings, step)?)?;
     }
     Ok(steps)
@@ -227,18 +228,49 @@ pub fn put_all(alloc: Global, out: &mut Vec<u8>, outcomes: &[Outcome]) -> Result
 }
 
 /// Whether this line tells the outcome.
-pub fn is_told(alloc: Global, outcome: &Outcome, line: &str) -> Result<bool, Fail> {
+pub fn is_told(alloc: Global, outcome: &Outcome, line: &str) -> Result<bool, AllocError> {
     let mut out = Vec::new(alloc);
     put(alloc, &mut out, outcome)?;
     Ok(out.as_slice() == spelled(alloc, line, "\n")?.as_bytes())
 }
 
 /// The lines that answer a story's commands.
-pub fn answers_of(alloc: Global, story: &str) -> Result<String, Fail> {
+pub fn answers_of(alloc: Global, story: &str) -> Result<String, AllocError> {
     let mut text = String::new(alloc);
     for line in story.lines() {
-        let (_, answer) = parts_of(line)?;
+        let (_, answer) = parts_of(line);
         text.push_str(spelled(alloc, answer, "\n")?.as_str())?;
     }
     Ok(text)
+}
+
+/// No error where this holds, and else the line as the error.
+pub fn ensure(holds: bool, line: &str) -> Result<(), Fail> {
+    if holds { Ok(()) } else { Err(Fail::new(line)) }
+}
+
+/// The step of a line gives what the line says. Else the line is the error.
+pub fn line_is_told<R: Threads + Sync>(
+    rt: &R,
+    alloc: Global,
+    fixture: &mut Fixture,
+    line: &str,
+) -> Result<(), Fail> {
+    let (step, wanted) = parts_of(line);
+    let step = step_of(rt, alloc, &fixture.settings, step)?;
+    let outcome = fixture.shard.step(&step)?;
+    ensure(is_told(alloc, &outcome, wanted)?, line)
+}
+
+/// The same of each line of a story.
+pub fn lines_are_told<R: Threads + Sync>(
+    rt: &R,
+    alloc: Global,
+    fixture: &mut Fixture,
+    story: &str,
+) -> Result<(), Fail> {
+    for line in story.lines() {
+        line_is_told(rt, alloc, fixture, line)?;
+    }
+    Ok(())
 }

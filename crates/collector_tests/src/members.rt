@@ -1,9 +1,9 @@
 //! Stories of one shard that no script of `replay` can tell: bodies for other policies, strangers, and what members
 //! wait for.
 
-use crate::lines::{answers_of, is_told, parts_of, put_all, step_of, steps_of};
-use crate::sections::{BASE, ERRORS, settings_of};
-use std::alloc::Global;
+use crate::lines::{ensure, line_is_told, lines_are_told};
+use crate::sections::{BASE, ERRORS, Fixture, settings_of, shard_of};
+use std::alloc::{AllocError, Global};
 use std::test::Fail;
 use std::thread::Threads;
 use tail_settings::Settings;
@@ -29,13 +29,6 @@ retry_exhausted=0 back_end_refused=0 back_end_rejected=0 invalid=0 over_budget=0
 /// Equal policies of another section are the tenant's policies.
 const EQUAL: &str = "post a.b 0 11.21 = reply a 200 -
 turn 0 1000 = job a 1 11.21";
-
-/// A tenant alone is told the same as with another one, whatever its number is.
-const ALONE: &str = "post b 0 11.21 = reply b 200 -
-turn 0 1000 = job b 1 11.21
-report b 1000 = report b accepted=1 undecided=0 pending=0 queued=0 active=1 \
-exported=0 not_sampled=0 too_early=0 queue_full=0 \
-retry_exhausted=0 back_end_refused=0 back_end_rejected=0 invalid=0 over_budget=0";
 
 /// A tenant comes with the second's section, unless it is or was a member, and goes once it was drained and holds no
 /// span. In a document `63` is c and `62` is b.
@@ -69,164 +62,154 @@ exported=0 not_sampled=1 too_early=0 queue_full=0 \
 retry_exhausted=0 back_end_refused=0 back_end_rejected=0 invalid=0 over_budget=0
 add 6161 = refused a 25";
 
-/// What the steps of a story are told in one run of a new shard with these members.
-fn told<R: Threads + Sync>(
-    rt: &R,
-    alloc: Global,
-    settings: &Settings,
-    members: &[u32],
-    story: &str,
-) -> Result<Vec<u8>, Fail> {
-    let steps = steps_of(rt, alloc, settings, story)?;
-    let mut shard = Shard::open(alloc, settings, members)?;
-    let outcomes = shard.run(steps.as_slice())?;
-    let mut out = Vec::new(alloc);
-    put_all(alloc, &mut out, outcomes.as_slice())?;
-    Ok(out)
-}
+const BOTH: &[u32] = &[1, 0, 7, 0];
 
-/// Whether the story comes true of a shard with these members, of two tenants of which the first has this table.
-fn is_true<R: Threads + Sync>(
+/// A new shard with these members, of two tenants of which the first has this table, is told the story.
+fn story_is_told<R: Threads + Sync>(
     rt: &R,
     alloc: Global,
     table: &str,
     members: &[u32],
     story: &str,
-) -> Result<bool, Fail> {
-    let settings = settings_of(alloc, &[table, BASE])?;
-    let told = told(rt, alloc, &settings, members, story)?;
-    Ok(told.as_slice() == answers_of(alloc, story)?.as_bytes())
+) -> Result<(), Fail> {
+    let mut fixture = shard_of(alloc, &[table, BASE], members)?;
+    lines_are_told(rt, alloc, &mut fixture, story)
 }
 
 #[test]
 fn members_are_told_their_own(rt: HostRuntime) -> Result<(), Fail> {
-    let both: &[u32] = &[1, 0, 7, 0];
-    let second: &[u32] = &[1];
-    let cases = [
-        (ERRORS, both, REFUSED),
-        (BASE, both, EQUAL),
-        (BASE, both, ALONE),
-        (BASE, second, ALONE),
-        (ERRORS, both, COMING),
-        (ERRORS, second, STRANGER),
-    ];
-    for (table, members, story) in cases {
-        assert!(rt; is_true(&rt, rt.alloc(), table, members, story)?, "{story}");
-    }
-    Ok(())
+    let alloc = rt.alloc();
+    story_is_told(&rt, alloc, ERRORS, BOTH, REFUSED)?;
+    story_is_told(&rt, alloc, BASE, BOTH, EQUAL)?;
+    story_is_told(&rt, alloc, ERRORS, BOTH, COMING)?;
+    story_is_told(&rt, alloc, ERRORS, &[1], STRANGER)
 }
 
-/// What a member alone waits for after each step: whether it is empty, when it is ready, when the second tenant is,
-/// which is no member, and when the shard is. A moment that is past counts as the latest one, so that the span waits
+/// What a member alone waits for after each step: whether it is empty, and the second tenant, which is no member, when
+/// each is ready, and when the shard is. A moment that is past counts as the latest one, so that the span waits
 /// from 100 on; a batch that failed is sent again after half of the first interval.
-const HELD: &str = "empty - - - post a.b 0 11.21 = refused a 23
-empty - - - report a 100 = report a accepted=0 undecided=0 pending=0 queued=0 active=0 \
+const HELD: &str = "empty holds - - - post a.b 0 11.21 = refused a 23
+empty holds - - - report a 100 = report a accepted=0 undecided=0 pending=0 queued=0 active=0 \
 exported=0 not_sampled=0 too_early=0 queue_full=0 \
 retry_exhausted=0 back_end_refused=0 back_end_rejected=0 invalid=0 over_budget=0
-holds 1100 - 1100 post a 0 11.21 = reply a 200 -
-holds 1100 - 1100 turn 0 1099 = idle 0
-holds - - - turn 0 1100 = job a 1 11.21
-holds 3600 - 3600 answer a 1100 1 0 failed - - = done a
-holds 3600 - 3600 report a 0 = report a accepted=1 undecided=0 pending=0 queued=0 active=1 \
+holds holds 1100 - 1100 post a 0 11.21 = reply a 200 -
+holds holds 1100 - 1100 turn 0 1099 = idle 0
+holds holds - - - turn 0 1100 = job a 1 11.21
+holds holds 3600 - 3600 answer a 1100 1 0 failed - - = done a
+holds holds 3600 - 3600 report a 0 = report a accepted=1 undecided=0 pending=0 queued=0 active=1 \
 exported=0 not_sampled=0 too_early=0 queue_full=0 \
 retry_exhausted=0 back_end_refused=0 back_end_rejected=0 invalid=0 over_budget=0
-holds 3600 - 3600 turn 0 3599 = idle 0
-holds - - - turn 0 3600 = job a 2 11.21
-holds - - - answer a 3600 1 0 200 - - = refused a 21
-empty - - - answer a 3600 2 0 200 - - = done a
-empty - - - drain a 3600 = done a
-empty - - - turn 0 3600 = idle 0
-empty - - - report a 3600 = report a accepted=1 undecided=0 pending=0 queued=0 active=0 \
+holds holds 3600 - 3600 turn 0 3599 = idle 0
+holds holds - - - turn 0 3600 = job a 2 11.21
+holds holds - - - answer a 3600 1 0 200 - - = refused a 21
+empty holds - - - answer a 3600 2 0 200 - - = done a
+empty holds - - - drain a 3600 = done a
+empty holds - - - turn 0 3600 = idle 0
+empty holds - - - report a 3600 = report a accepted=1 undecided=0 pending=0 queued=0 active=0 \
 exported=1 not_sampled=0 too_early=0 queue_full=0 \
 retry_exhausted=0 back_end_refused=0 back_end_rejected=0 invalid=0 over_budget=0";
 
 /// The same of two members. The second's error waits a second for its trace, and another one for a batch, which its
-/// drain makes at once. The first's second batch waits for the answer to the one before it.
-const BOTH_WAIT: &str = "empty - 1050 1050 post b 50 11.21.7a021802 = reply b 200 -
-holds 1100 1050 1050 post a 100 11.21 = reply a 200 -
-holds 1100 2050 1100 turn 0 1050 = worked b
-holds - 2050 2050 turn 0 1100 = job a 1 11.21
-holds 2102 2050 2050 post a 1102 12.22 = reply a 200 -
-holds 2102 1103 1103 drain b 1103 = done b
-holds 2102 1103 1103 turn 0 1102 = idle 0
-holds 2102 - 2102 turn 0 1103 = job b 1 11.21.7a021802
-holds 2102 - 2102 answer b 1103 1 0 200 - - = done b
-holds 2102 - 2102 retire b 1103 = report b accepted=1 undecided=0 pending=0 queued=0 active=0 \
+/// drain makes at once. Once it is retired it is no member. The first's second batch waits for the answer to the one
+/// before it.
+const BOTH_WAIT: &str = "empty holds - 1050 1050 post b 50 11.21.7a021802 = reply b 200 -
+holds holds 1100 1050 1050 post a 100 11.21 = reply a 200 -
+holds holds 1100 2050 1100 turn 0 1050 = worked b
+holds holds - 2050 2050 turn 0 1100 = job a 1 11.21
+holds holds 2102 2050 2050 post a 1102 12.22 = reply a 200 -
+holds holds 2102 1103 1103 drain b 1103 = done b
+holds holds 2102 1103 1103 turn 0 1102 = idle 0
+holds holds 2102 - 2102 turn 0 1103 = job b 1 11.21.7a021802
+holds empty 2102 - 2102 answer b 1103 1 0 200 - - = done b
+holds holds 2102 - 2102 retire b 1103 = report b accepted=1 undecided=0 pending=0 queued=0 active=0 \
 exported=1 not_sampled=0 too_early=0 queue_full=0 \
 retry_exhausted=0 back_end_refused=0 back_end_rejected=0 invalid=0 over_budget=0
-holds - - - turn 0 2102 = worked a
-holds 2102 - 2102 answer a 2102 1 0 200 - - = done a
-holds - - - turn 0 2102 = job a 2 12.22
-empty - - - answer a 2102 2 0 200 - - = done a";
+holds holds - - - turn 0 2102 = worked a
+holds holds 2102 - 2102 answer a 2102 1 0 200 - - = done a
+holds holds - - - turn 0 2102 = job a 2 12.22
+empty holds - - - answer a 2102 2 0 200 - - = done a";
 
 /// A line's first column, and the rest.
-fn column_of(line: &str) -> Result<(&str, &str), Fail> {
-    Ok(line.split_once(' ').ok_or("a line of one word")?)
+fn column_of(line: &str) -> (&str, &str) {
+    line.split_once(' ').unwrap_or((line, ""))
 }
 
-/// The moment in a column, or none where a dash stands there.
-fn moment_in(column: &str) -> Option<u64> {
-    column.parse().ok()
+/// Whether a tenant is as empty, and it and the shard are ready when these columns say, of which a dash says never.
+fn is_waiting(shard: &Shard, tenant: u32, holds: &str, ready: &str, shard_ready: &str) -> bool {
+    let waiting = shard.waiting(tenant);
+    waiting.is_empty == (holds == "empty")
+        && waiting.is_empty == shard.is_empty(tenant)
+        && ready.parse().ok() == waiting.tenant_ready
+        && shard_ready.parse().ok() == waiting.shard_ready
 }
 
-/// Whether the step of a line gives what the line says, and leaves the first two tenants and the shard waiting for what
-/// its columns say.
-fn is_left<R: Threads + Sync>(
+/// The step of a line gives what the line says, and leaves the first two tenants and the shard waiting for what its
+/// columns say. Else the line is the error.
+fn line_is_left<R: Threads + Sync>(
     rt: &R,
     alloc: Global,
-    settings: &Settings,
-    shard: &mut Shard,
+    fixture: &mut Fixture,
     line: &str,
-) -> Result<bool, Fail> {
-    let (step, wanted) = parts_of(line)?;
-    let (holds, step) = column_of(step)?;
-    let (first_ready, step) = column_of(step)?;
-    let (second_ready, step) = column_of(step)?;
-    let (shard_ready, step) = column_of(step)?;
-    let step = step_of(rt, alloc, settings, step)?;
-    let outcome = shard.step(&step)?;
-    let first = shard.waiting(0);
-    let second = shard.waiting(1);
-    let is_empty = holds == "empty";
-    Ok(
-        first.is_empty == is_empty
-            && shard.is_empty(0) == is_empty
-            && second.is_empty == shard.is_empty(1)
-            && first.tenant_ready == moment_in(first_ready)
-            && second.tenant_ready == moment_in(second_ready)
-            && first.shard_ready == moment_in(shard_ready)
-            && second.shard_ready == moment_in(shard_ready)
-            && is_told(alloc, &outcome, wanted)?,
-    )
+) -> Result<(), Fail> {
+    let (first, rest) = column_of(line);
+    let (second, rest) = column_of(rest);
+    let (first_ready, rest) = column_of(rest);
+    let (second_ready, rest) = column_of(rest);
+    let (ready, step) = column_of(rest);
+    line_is_told(rt, alloc, fixture, step)?;
+    let is_left = is_waiting(&fixture.shard, 0, first, first_ready, ready)
+        && is_waiting(&fixture.shard, 1, second, second_ready, ready);
+    ensure(is_left, line)
+}
+
+/// A new shard waits for nothing and holds no span of the first tenant, and each line leaves it as its columns say.
+fn lines_are_left<R: Threads + Sync>(
+    rt: &R,
+    alloc: Global,
+    fixture: &mut Fixture,
+    lines: &str,
+) -> Result<(), Fail> {
+    let is_idle = is_waiting(&fixture.shard, 0, "empty", "-", "-");
+    ensure(is_idle, "a new shard waits")?;
+    for line in lines.lines() {
+        line_is_left(rt, alloc, fixture, line)?;
+    }
+    Ok(())
+}
+
+/// The same of a shard with these members, of two tenants.
+fn story_is_left<R: Threads + Sync>(
+    rt: &R,
+    alloc: Global,
+    members: &[u32],
+    lines: &str,
+) -> Result<(), Fail> {
+    let mut fixture = shard_of(alloc, &[BASE, ERRORS], members)?;
+    lines_are_left(rt, alloc, &mut fixture, lines)
+}
+
+fn has_members(
+    alloc: Global,
+    settings: &Settings,
+    shard: u32,
+    members: &[u32],
+) -> Result<bool, AllocError> {
+    Ok(members_of(alloc, settings, shard)?.as_slice() == members)
+}
+
+/// Whether both tenants are in the only shard.
+fn are_in_one_shard(alloc: Global) -> Result<bool, Fail> {
+    let settings = settings_of(alloc, &[BASE, ERRORS])?;
+    Ok(has_members(alloc, &settings, 0, &[0, 1])? && has_members(alloc, &settings, 1, &[])?)
 }
 
 #[test]
 fn a_member_is_empty_once_its_batches_are_answered(rt: HostRuntime) -> Result<(), Fail> {
-    let settings = settings_of(rt.alloc(), &[BASE, ERRORS])?;
-    let mut shard = Shard::open(rt.alloc(), &settings, &[0])?;
-    assert!(rt; shard.is_empty(0));
-    assert!(rt; members_of(rt.alloc(), &settings, 0)?.as_slice() == [0_u32, 1].as_slice());
-    assert!(rt; members_of(rt.alloc(), &settings, 1)?.is_empty());
-    for line in HELD.lines() {
-        assert!(rt;
-            is_left(&rt, rt.alloc(), &settings, &mut shard, line)? && !shard.is_empty(1),
-            "{line}"
-        );
-    }
-    Ok(())
+    assert!(rt; are_in_one_shard(rt.alloc())?);
+    story_is_left(&rt, rt.alloc(), &[0], HELD)
 }
 
 #[test]
 fn a_shard_waits_for_the_first_of_its_members(rt: HostRuntime) -> Result<(), Fail> {
-    let settings = settings_of(rt.alloc(), &[BASE, ERRORS])?;
-    let mut shard = Shard::open(rt.alloc(), &settings, &[1, 0])?;
-    assert!(rt; shard.waiting(0).shard_ready == None);
-    for line in BOTH_WAIT.lines() {
-        assert!(rt;
-            is_left(&rt, rt.alloc(), &settings, &mut shard, line)?,
-            "{line}"
-        );
-    }
-    assert!(rt; shard.waiting(0).is_empty && !shard.waiting(1).is_empty);
-    Ok(())
+    story_is_left(&rt, rt.alloc(), &[1, 0], BOTH_WAIT)
 }

@@ -66,12 +66,8 @@ impl Read for Drips<'_> {
         if self.fails && self.text.is_empty() {
             return Err(io::ErrorKind::Other.into());
         }
-        let n = self.text.len().min(buf.len()).min(self.most);
-        for i in 0..n {
-            buf[i] = self.text[i];
-        }
-        self.text = &self.text[n..];
-        Ok(n)
+        let most = self.most.min(buf.len());
+        self.text.read(&mut buf[..most])
     }
 }
 
@@ -95,9 +91,7 @@ impl Write for Sips {
         if self.taken.len() >= self.most {
             return Err(io::ErrorKind::Other.into());
         }
-        self.taken
-            .push(buf[0])
-            .map_err(|_| io::Error::from(io::ErrorKind::Other))?;
+        self.taken.push(buf[0])?;
         Ok(1)
     }
 
@@ -116,8 +110,10 @@ fn runs<R: Threads + Sync>(
     most: usize,
     end: Result<(), ScriptFault>,
     text: &[u8],
-) -> Result<bool, Fail> {
-    let mut reader = BufReader::with_capacity(alloc, capacity, drips)?;
+) -> Result<bool, AllocError> {
+    let Ok(mut reader) = BufReader::with_capacity(alloc, capacity, drips) else {
+        return Err(AllocError);
+    };
     let mut writer = Sips {
         taken: Vec::new(alloc),
         most,
@@ -129,7 +125,7 @@ fn runs<R: Threads + Sync>(
 }
 
 /// So many turns, one a line behind this word.
-fn lines_of_turns(alloc: Global, word: &str) -> Result<String, Fail> {
+fn lines_of_turns(alloc: Global, word: &str) -> Result<String, AllocError> {
     let mut text = String::new(alloc);
     for turn in 100_000..110_000u32 {
         text.push_str(format!(in alloc; "{word} {turn}\n")?.as_str())?;
@@ -137,79 +133,80 @@ fn lines_of_turns(alloc: Global, word: &str) -> Result<String, Fail> {
     Ok(text)
 }
 
+/// Whether a script and its answers come through a buffer of so many bytes, a byte a call.
+fn comes_through<R: Threads + Sync>(
+    rt: &R,
+    alloc: Global,
+    capacity: usize,
+    script: &[u8],
+    answers: &[u8],
+) -> Result<bool, AllocError> {
+    let drips = dripping(script, 1, false);
+    runs(rt, alloc, capacity, drips, 120_000, Ok(()), answers)
+}
+
+/// Whether many turns and their answers come through a small buffer and a large one.
+fn turns_come_through<R: Threads + Sync>(rt: &R, alloc: Global) -> Result<bool, AllocError> {
+    let script = lines_of_turns(alloc, "turn 0")?;
+    let answers = lines_of_turns(alloc, "idle")?;
+    let (script, answers) = (script.as_bytes(), answers.as_bytes());
+    Ok(
+        comes_through(rt, alloc, 1, script, answers) == Ok(true)
+            && comes_through(rt, alloc, 8192, script, answers) == Ok(true),
+    )
+}
+
 #[test]
 fn a_byte_a_call_and_every_second_call_interrupted(rt: HostRuntime) -> Result<(), Fail> {
-    let script = lines_of_turns(rt.alloc(), "turn 0")?;
-    let answers = lines_of_turns(rt.alloc(), "idle")?;
-    for capacity in [1, 8192] {
-        let drips = dripping(script.as_bytes(), 1, false);
-        assert!(rt;
-            runs(
-                &rt,
-                rt.alloc(),
-                capacity,
-                drips,
-                120_000,
-                Ok(()),
-                answers.as_bytes()
-            )?
-        );
-    }
+    assert!(rt; turns_come_through(&rt, rt.alloc())?);
     Ok(())
 }
 
-/// A script that comes so many bytes a call is answered up to its last line, in which the reader fails.
-#[test]
-fn lines_are_the_same_in_any_pieces(rt: HostRuntime) -> Result<(), Fail> {
-    let answers = b"idle 1\nidle 2\n";
-    for most in [1, 2, 3, 7] {
-        let drips = dripping(b"# six\nturn 0 1\n\nturn 0 2\nturn 0 3", most, true);
-        assert!(rt;
-            runs(
-                &rt,
-                rt.alloc(),
-                5,
-                drips,
-                100,
-                Err(ScriptFault::Line),
-                answers
-            )?
-        );
-    }
-    Ok(())
+/// Whether a script that comes so many bytes a call is answered up to its last line, in which the reader fails.
+fn comes_in_pieces<R: Threads + Sync>(
+    rt: &R,
+    alloc: Global,
+    most: usize,
+) -> Result<bool, AllocError> {
+    let drips = dripping(b"# six\nturn 0 1\n\nturn 0 2\nturn 0 3", most, true);
+    let end = Err(ScriptFault::Line);
+    runs(rt, alloc, 5, drips, 100, end, b"idle 1\nidle 2\n")
 }
 
 #[test]
-fn a_writer_that_fails_ends_the_run(rt: HostRuntime) -> Result<(), Fail> {
-    let script = b"turn 0 1\nturn 0 2\n";
-    let few = dripping(script, 100, false);
+fn lines_are_the_same_in_any_pieces(rt: HostRuntime) {
+    let alloc = rt.alloc();
     assert!(rt;
-        runs(
-            &rt,
-            rt.alloc(),
-            100,
-            few,
-            9,
-            Err(ScriptFault::Line),
-            b"idle 1\nid"
-        )?
+        comes_in_pieces(&rt, alloc, 1) == Ok(true)
+            && comes_in_pieces(&rt, alloc, 2) == Ok(true)
+            && comes_in_pieces(&rt, alloc, 3) == Ok(true)
+            && comes_in_pieces(&rt, alloc, 7) == Ok(true)
     );
-    let all = dripping(script, 100, false);
-    assert!(rt; runs(&rt, rt.alloc(), 100, all, 14, Ok(()), b"idle 1\nidle 2\n")?);
-    Ok(())
 }
 
 #[test]
-fn without_memory_the_answers_so_far_are_written(rt: HostRuntime) -> Result<(), Fail> {
+fn a_writer_that_fails_ends_the_run(rt: HostRuntime) {
+    let alloc = rt.alloc();
+    let script = b"turn 0 1\nturn 0 2\n".as_slice();
+    let drips = dripping(script, 100, false);
+    let end = Err(ScriptFault::Line);
+    let few = runs(&rt, alloc, 100, drips, 9, end, b"idle 1\nid");
+    let drips = dripping(script, 100, false);
+    let all = runs(&rt, alloc, 100, drips, 14, Ok(()), b"idle 1\nidle 2\n");
+    assert!(rt; few == Ok(true) && all == Ok(true));
+}
+
+#[test]
+fn without_memory_the_answers_so_far_are_written(rt: HostRuntime) {
     let alloc = rt.alloc();
     let mut reader: &[u8] = b"turn 0 1\nturn 0 2\nturn 0 3\nturn 0 4\n";
     let mut out = Vec::new(alloc);
     let mut turns = Turns { left: 2 };
     let told = run_script(&rt, alloc, &mut turns, &mut reader, &mut out);
-    assert!(rt; told == Err(ScriptFault::OutOfMemory));
-    assert!(rt; out.as_slice() == b"idle 1\nidle 2\n".as_slice());
-    assert!(rt; reader.starts_with(b"turn 0 4\n"));
-    Ok(())
+    let is_written = out.as_slice() == b"idle 1\nidle 2\n".as_slice();
+    assert!(rt;
+        told == Err(ScriptFault::OutOfMemory) && is_written && reader.starts_with(b"turn 0 4\n")
+    );
 }
 
 const SETTINGS: &str = "[[tenant]]
@@ -217,11 +214,11 @@ name = \"a\"
 tail_sampling = { policy = [{ type = \"always_sample\" }] }
 ";
 
-/// What a replay ends with, no text where all is done.
-fn words_of(alloc: Global, end: Result<(), ReplayFault>) -> Result<String, AllocError> {
+/// Whether a replay ends in these words, none where all is done.
+fn ends_in(alloc: Global, end: Result<(), ReplayFault>, words: &str) -> Result<bool, AllocError> {
     match end {
-        Ok(()) => Ok(String::new(alloc)),
-        Err(fault) => fault.to_string(alloc),
+        Ok(()) => Ok(words.is_empty()),
+        Err(fault) => Ok(fault.to_string(alloc)?.as_str() == words),
     }
 }
 
@@ -234,71 +231,42 @@ fn replays<R: Threads + Sync>(
     most: usize,
     end: &str,
     text: &[u8],
-) -> Result<bool, Fail> {
-    let mut reader = BufReader::new(alloc, drips)?;
+) -> Result<bool, AllocError> {
+    let Ok(mut reader) = BufReader::new(alloc, drips) else {
+        return Err(AllocError);
+    };
     let mut writer = Sips {
         taken: Vec::new(alloc),
         most,
         is_next: false,
     };
     let told = replay(rt, alloc, settings, &mut reader, &mut writer);
-    Ok(words_of(alloc, told)?.as_str() == end && writer.taken.as_slice() == text)
+    Ok(ends_in(alloc, told, end)? && writer.taken.as_slice() == text)
 }
 
-/// A replay that is done, and those whose reader fails in the last line, whose writer fails, whose third line is no
-/// command, and whose settings are faulty.
+/// Whether a replay that is done ends so, and those whose reader fails in the last line, whose writer fails, and whose
+/// third line is no command.
+fn scripts_end<R: Threads + Sync>(rt: &R, alloc: Global) -> bool {
+    let answers = b"idle 0\nidle 0\n".as_slice();
+    let fault = "input or output fault";
+    let drips = dripping(b"turn 0 1\nturn 0 2", 1, false);
+    let done = replays(rt, alloc, SETTINGS, drips, 14, "", answers);
+    let drips = dripping(b"turn 0 1\nturn 0 2\nturn 0 3", 1, true);
+    let unread = replays(rt, alloc, SETTINGS, drips, 100, fault, answers);
+    let drips = dripping(b"turn 0 1\nturn 0 2\nno command\n", 1, false);
+    let unwritten = replays(rt, alloc, SETTINGS, drips, 13, fault, b"idle 0\nidle 0");
+    let drips = dripping(b"turn 0 1\nturn 0 2\nno command\n", 1, false);
+    let fault = "script fault at line 3";
+    let faulty = replays(rt, alloc, SETTINGS, drips, 14, fault, answers);
+    done == Ok(true) && unread == Ok(true) && unwritten == Ok(true) && faulty == Ok(true)
+}
+
+/// Also one whose settings are faulty, and one that has no memory.
 #[test]
-fn replays_end_in_their_words(rt: HostRuntime) -> Result<(), Fail> {
-    let cases: [(&str, &[u8], bool, usize, &str, &[u8]); 5] = [
-        (
-            SETTINGS,
-            b"turn 0 1\nturn 0 2",
-            false,
-            14,
-            "",
-            b"idle 0\nidle 0\n",
-        ),
-        (
-            SETTINGS,
-            b"turn 0 1\nturn 0 2\nturn 0 3",
-            true,
-            100,
-            "input or output fault",
-            b"idle 0\nidle 0\n",
-        ),
-        (
-            SETTINGS,
-            b"turn 0 1\nturn 0 2\nno command\n",
-            false,
-            13,
-            "input or output fault",
-            b"idle 0\nidle 0",
-        ),
-        (
-            SETTINGS,
-            b"turn 0 1\nturn 0 2\nno command\n",
-            false,
-            14,
-            "script fault at line 3",
-            b"idle 0\nidle 0\n",
-        ),
-        (
-            "name =",
-            b"no command\n",
-            false,
-            100,
-            "settings fault 10",
-            b"",
-        ),
-    ];
-    for (settings, text, fails, most, end, answers) in cases {
-        let drips = dripping(text, 1, fails);
-        assert!(rt;
-            replays(&rt, rt.alloc(), settings, drips, most, end, answers)?,
-            "{end}"
-        );
-    }
-    let words = words_of(rt.alloc(), Err(ReplayFault::OutOfMemory))?;
-    assert!(rt; words.as_str() == "out of memory");
-    Ok(())
+fn replays_end_in_their_words(rt: HostRuntime) {
+    let alloc = rt.alloc();
+    let drips = dripping(b"no command\n", 1, false);
+    let faulty = replays(&rt, alloc, "name =", drips, 100, "settings fault 10", b"");
+    let refused = ends_in(alloc, Err(ReplayFault::OutOfMemory), "out of memory");
+    assert!(rt; scripts_end(&rt, alloc) && faulty == Ok(true) && refused == Ok(true));
 }

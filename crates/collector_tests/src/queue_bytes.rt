@@ -1,12 +1,11 @@
 //! Stories of tenants whose queues hold so many bytes at most, which no script of `replay` can tell: no document says
 //! how many.
 
-use crate::lines::{answers_of, put_all, steps_of};
-use crate::sections::{BASE, settings_of};
+use crate::lines::lines_are_told;
+use crate::sections::{BASE, opened, settings_of};
 use std::alloc::Global;
 use std::test::Fail;
 use std::thread::Threads;
-use tenant_shard::Shard;
 
 /// A batch of one span has 34 bytes, and one of two has 64. Of 68 bytes two of one span may wait, and no third, each
 /// tenant's for itself. A batch that was handed out doesn't count, be it on its way or to be sent again.
@@ -82,32 +81,22 @@ report a 1000 = report a accepted=5 undecided=0 pending=0 queued=0 active=0 \
 exported=4 not_sampled=0 too_early=0 queue_full=1 \
 retry_exhausted=0 back_end_refused=0 back_end_rejected=0 invalid=0 over_budget=0";
 
-/// What the steps of a story are told by a shard of two tenants whose queues hold so many bytes each.
-fn told<R: Threads + Sync>(
+/// A shard of two tenants whose queues hold so many bytes each is told the story.
+fn story_is_told<R: Threads + Sync>(
     rt: &R,
     alloc: Global,
     bytes: u64,
     story: &str,
-) -> Result<Vec<u8>, Fail> {
+) -> Result<(), Fail> {
     let mut settings = settings_of(alloc, &[BASE, BASE])?;
     settings.bound_queues(bytes);
-    let steps = steps_of(rt, alloc, &settings, story)?;
-    let mut shard = Shard::open(alloc, &settings, &[0, 1])?;
-    let outcomes = shard.run(steps.as_slice())?;
-    let mut out = Vec::new(alloc);
-    put_all(alloc, &mut out, outcomes.as_slice())?;
-    Ok(out)
+    let mut fixture = opened(alloc, settings, &[0, 1])?;
+    lines_are_told(rt, alloc, &mut fixture, story)
 }
 
 #[test]
 fn batches_that_wait_have_so_many_bytes_at_most(rt: HostRuntime) -> Result<(), Fail> {
-    let cases = [(68, TWO_WAIT), (67, ONE_WAITS), (68, DRAINED)];
-    for (bytes, story) in cases {
-        let told = told(&rt, rt.alloc(), bytes, story)?;
-        assert!(rt;
-            told.as_slice() == answers_of(rt.alloc(), story)?.as_bytes(),
-            "{story}"
-        );
-    }
-    Ok(())
+    story_is_told(&rt, rt.alloc(), 68, TWO_WAIT)?;
+    story_is_told(&rt, rt.alloc(), 67, ONE_WAITS)?;
+    story_is_told(&rt, rt.alloc(), 68, DRAINED)
 }

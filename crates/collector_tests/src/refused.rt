@@ -1,15 +1,15 @@
 //! A run over three tenants in which memory is refused. Each run with one allocation refused has to end well, too.
 
-use crate::lines::{answers_of, is_told, parts_of, put_all, step_of, steps_of};
+use crate::lines::{
+    answers_of, ensure, is_told, lines_are_told, parts_of, put_all, step_of, steps_of,
+};
 use crate::sections::{
-    ERRORS, NARROW, NONE_REMEMBERED, ONE_OF_EACH, THREES, TWO_DROPPED, TWO_OR_THREE, TWO_SAMPLED,
-    settings_of,
+    ERRORS, Fixture, NARROW, NONE_REMEMBERED, ONE_OF_EACH, THREES, TWO_DROPPED, TWO_OR_THREE,
+    TWO_SAMPLED, shard_of,
 };
 use std::alloc::{AllocError, Global};
-use std::process::Abort;
 use std::test::Fail;
 use std::thread::Threads;
-use tail_settings::Settings;
 use tenant_shard::{Outcome, Shard, Step, Stopped};
 
 /// Tenant a has batches of two or three spans, b has room for two traces and one batch, and c samples errors.
@@ -95,14 +95,6 @@ report b 3600 = report b accepted=7 undecided=1 pending=0 queued=5 \
 active=0 exported=0 not_sampled=0 too_early=1 queue_full=0 \
 retry_exhausted=0 back_end_refused=0 back_end_rejected=0 invalid=0 over_budget=0";
 
-/// The outcomes of a run, up to where it stopped.
-fn outcomes_of(shard: &mut Shard, steps: &[Step]) -> Vec<Outcome> {
-    match shard.run(steps) {
-        Ok(outcomes) => outcomes,
-        Err(Stopped { outcomes }) => outcomes,
-    }
-}
-
 /// The counters of all tenants. Where memory is refused they are asked for again. Reports of the first moment run no
 /// timer that hasn't run.
 fn reports(shard: &mut Shard) -> Result<Vec<Outcome>, Stopped> {
@@ -140,89 +132,121 @@ fn are_others_same(own: Option<u32>, before: &[Outcome], after: &[Outcome]) -> b
     before.len() == 3 && after.len() == 3
 }
 
-/// What a step gives, after it was refused memory where it is. The counters of all tenants but the one whose step it
-/// was are then as before.
-fn given_at_last(rt: &impl Abort, shard: &mut Shard, step: &Step) -> Result<Outcome, Fail> {
-    let before = reports(shard)?;
-    if let Ok(outcome) = shard.step(step) {
-        return Ok(outcome);
-    }
+/// What a step gives that was refused memory, if it left the counters of all tenants but its own as they were before.
+fn given_again(shard: &mut Shard, step: &Step, before: &[Outcome]) -> Result<Outcome, Fail> {
     let after = reports(shard)?;
     let outcome = shard.step(step)?;
-    assert!(rt; are_others_same(tenant_of(&outcome), before.as_slice(), after.as_slice()));
-    Ok(outcome)
+    if are_others_same(tenant_of(&outcome), before, after.as_slice()) {
+        Ok(outcome)
+    } else {
+        Err(Fail::new("another tenant's counters changed"))
+    }
 }
 
-/// The step of a line gives what the line says.
-fn line_is_given<R: Threads + Sync + Abort>(
+/// What a step gives, after it was refused memory where it is.
+fn given_at_last(shard: &mut Shard, step: &Step) -> Result<Outcome, Fail> {
+    let before = reports(shard)?;
+    match shard.step(step) {
+        Ok(outcome) => Ok(outcome),
+        Err(_) => given_again(shard, step, before.as_slice()),
+    }
+}
+
+/// The step of a line gives what the line says. Else the line is the error.
+fn line_is_given<R: Threads + Sync>(
     rt: &R,
     alloc: Global,
-    settings: &Settings,
-    shard: &mut Shard,
+    fixture: &mut Fixture,
     line: &str,
 ) -> Result<(), Fail> {
-    let (step, wanted) = parts_of(line)?;
-    let step = step_of(rt, alloc, settings, step)?;
-    let outcome = given_at_last(rt, shard, &step)?;
-    assert!(rt;
-        is_told(alloc, &outcome, wanted)?,
-        "{outcome:?} in place of {wanted}"
-    );
-    Ok(())
+    let (step, wanted) = parts_of(line);
+    let step = step_of(rt, alloc, &fixture.settings, step)?;
+    let outcome = given_at_last(&mut fixture.shard, &step)?;
+    ensure(is_told(alloc, &outcome, wanted)?, line)
 }
 
-fn each_is_given<R: Threads + Sync + Abort>(
+/// The same of each line of a story, of three tenants with these tables.
+fn each_is_given<R: Threads + Sync>(
     rt: &R,
     alloc: Global,
-    settings: &Settings,
+    tables: &[&str],
     story: &str,
 ) -> Result<(), Fail> {
-    let mut shard = Shard::open(alloc, settings, &[0, 1, 2])?;
+    let mut fixture = shard_of(alloc, tables, &[0, 1, 2])?;
     for line in story.lines() {
-        line_is_given(rt, alloc, settings, &mut shard, line)?;
+        line_is_given(rt, alloc, &mut fixture, line)?;
     }
     Ok(())
 }
 
 #[test]
 fn a_refused_step_is_done_again(rt: HostRuntime) -> Result<(), Fail> {
-    let settings = settings_of(rt.alloc(), &TABLES)?;
-    each_is_given(&rt, rt.alloc(), &settings, STORY)
+    each_is_given(&rt, rt.alloc(), &TABLES, STORY)
 }
 
 #[test]
 fn a_refused_step_is_remembered_once(rt: HostRuntime) -> Result<(), Fail> {
-    let settings = settings_of(rt.alloc(), &REMEMBERING)?;
-    each_is_given(&rt, rt.alloc(), &settings, REMEMBERED)
+    each_is_given(&rt, rt.alloc(), &REMEMBERING, REMEMBERED)
+}
+
+/// Appends what a run tells up to where it stopped, and says how many outcomes these are.
+fn put_run(
+    alloc: Global,
+    out: &mut Vec<u8>,
+    shard: &mut Shard,
+    steps: &[Step],
+) -> Result<usize, AllocError> {
+    let outcomes = match shard.run(steps) {
+        Ok(outcomes) => outcomes,
+        Err(Stopped { outcomes }) => outcomes,
+    };
+    put_all(alloc, out, outcomes.as_slice())?;
+    Ok(outcomes.len())
 }
 
 /// What a run tells that stops where memory is refused, with the outcomes so far, and goes on with the refused step.
-fn told_at_last(alloc: Global, shard: &mut Shard, steps: &[Step]) -> Result<Vec<u8>, Fail> {
+fn told_at_last(alloc: Global, shard: &mut Shard, steps: &[Step]) -> Result<Vec<u8>, AllocError> {
     let mut out = Vec::new(alloc);
-    let done = outcomes_of(shard, steps);
-    put_all(alloc, &mut out, done.as_slice())?;
-    let left = steps.get(done.len()..).ok_or("more outcomes than steps")?;
-    let rest = shard.run(left)?;
-    put_all(alloc, &mut out, rest.as_slice())?;
+    let done = put_run(alloc, &mut out, shard, steps)?;
+    if let Some(left) = steps.get(done..) {
+        put_run(alloc, &mut out, shard, left)?;
+    }
     Ok(out)
 }
 
-fn story_goes_on<R: Threads + Sync>(
-    rt: &R,
+/// Whether a run of the steps of a story tells at last what answers them.
+fn goes_on(
     alloc: Global,
-    settings: &Settings,
-) -> Result<bool, Fail> {
-    let steps = steps_of(rt, alloc, settings, STORY)?;
-    let mut shard = Shard::open(alloc, settings, &[0, 1, 2])?;
-    let told = told_at_last(alloc, &mut shard, steps.as_slice())?;
-    Ok(told.as_slice() == answers_of(alloc, STORY)?.as_bytes())
+    shard: &mut Shard,
+    steps: &[Step],
+    story: &str,
+) -> Result<bool, AllocError> {
+    let told = told_at_last(alloc, shard, steps)?;
+    Ok(told.as_slice() == answers_of(alloc, story)?.as_bytes())
+}
+
+fn story_goes_on<R: Threads + Sync>(rt: &R, alloc: Global) -> Result<bool, Fail> {
+    let mut fixture = shard_of(alloc, &TABLES, &[0, 1, 2])?;
+    let steps = steps_of(rt, alloc, &fixture.settings, STORY)?;
+    Ok(goes_on(alloc, &mut fixture.shard, steps.as_slice(), STORY)?)
 }
 
 #[test]
 fn a_run_goes_on_where_it_stopped(rt: HostRuntime) -> Result<(), Fail> {
-    let settings = settings_of(rt.alloc(), &TABLES)?;
-    assert!(rt; story_goes_on(&rt, rt.alloc(), &settings)?);
+    assert!(rt; story_goes_on(&rt, rt.alloc())?);
     Ok(())
+}
+
+/// A post that is tried once, with the table of its tenant.
+struct Tried {
+    table: &'static str,
+    /// What is told before it.
+    before: &'static str,
+    post: &'static str,
+    /// What is told behind it where it was taken.
+    taken: &'static str,
+    /// And where it was refused.
+    refused: &'static str,
 }
 
 /// Traces 11 and 12 have left and are remembered, 11 to be forgotten first, and no timer is due before 3000.
@@ -231,113 +255,86 @@ post a 1000 12.22 = reply a 200 -
 post a 2000 13.23 = reply a 200 -";
 
 /// A span of 11 follows its decision, and one of 13 joins its row.
-const TRIED: &str = "post a 2500 11.22+13.23";
+const JOINS: &str = "post a 2500 11.22+13.23";
 
 /// At 3000 the decision of 13 takes the place of that of 12, or of 11 where that post was refused and isn't done again.
-const AFTER: &str = "post a 3000 14.25 = reply a 200 -
-post a 3100 12.22 = reply a 200 -";
+const SAMPLED: Tried = Tried {
+    table: TWO_SAMPLED,
+    before: BEFORE,
+    post: JOINS,
+    taken: "post a 3000 14.25 = reply a 200 -
+post a 3100 12.22 = reply a 200 -
+report a 3100 = report a accepted=7 undecided=1 pending=0 queued=5 active=0 exported=0 not_sampled=0 too_early=1 \
+queue_full=0 retry_exhausted=0 back_end_refused=0 back_end_rejected=0 invalid=0 over_budget=0",
+    refused: "post a 3000 14.25 = reply a 200 -
+post a 3100 12.22 = reply a 200 -
+report a 3100 = report a accepted=5 undecided=1 pending=0 queued=4 active=0 exported=0 not_sampled=0 too_early=0 \
+queue_full=0 retry_exhausted=0 back_end_refused=0 back_end_rejected=0 invalid=0 over_budget=0",
+};
 
-/// The report after all of it, and whether the post was taken.
-fn reported<R: Threads + Sync>(
+/// The same where nothing is sampled.
+const DROPPED: Tried = Tried {
+    table: TWO_DROPPED,
+    before: BEFORE,
+    post: JOINS,
+    taken: "post a 3000 14.25 = reply a 200 -
+post a 3100 12.22 = reply a 200 -
+report a 3100 = report a accepted=7 undecided=1 pending=0 queued=0 active=0 exported=0 not_sampled=5 too_early=1 \
+queue_full=0 retry_exhausted=0 back_end_refused=0 back_end_rejected=0 invalid=0 over_budget=0",
+    refused: "post a 3000 14.25 = reply a 200 -
+post a 3100 12.22 = reply a 200 -
+report a 3100 = report a accepted=5 undecided=1 pending=0 queued=0 active=0 exported=0 not_sampled=4 too_early=0 \
+queue_full=0 retry_exhausted=0 back_end_refused=0 back_end_rejected=0 invalid=0 over_budget=0",
+};
+
+/// Trace 11 was sampled, and a late span of it is pending from 1000 on. The first of the three that come at 1100 waits
+/// too, the second fills a batch, and the third waits. Where they were refused, the one that was pending leaves at its
+/// own time.
+const LATE: Tried = Tried {
+    table: THREES,
+    before: "post a 0 11.21+11.22+11.23 = reply a 200 -
+turn 0 1000 = job a 1 11.21+11.22+11.23
+post a 1000 11.24 = reply a 200 -",
+    post: "post a 1100 11.25+11.26+11.27",
+    taken: "turn 0 1999 = job a 2 11.24+11.25+11.26
+turn 0 2000 = idle 0
+turn 0 2099 = idle 0
+turn 0 2100 = job a 3 11.27",
+    refused: "turn 0 1999 = idle 0
+turn 0 2000 = job a 2 11.24
+turn 0 2099 = idle 0
+turn 0 2100 = idle 0",
+};
+
+/// What stands before and behind the post is told.
+fn lines_around_are_told<R: Threads + Sync>(
     rt: &R,
     alloc: Global,
-    settings: &Settings,
-) -> Result<(Outcome, bool), Fail> {
-    let before = steps_of(rt, alloc, settings, BEFORE)?;
-    let tried = step_of(rt, alloc, settings, TRIED)?;
-    let after = steps_of(rt, alloc, settings, AFTER)?;
-    let mut shard = Shard::open(alloc, settings, &[0])?;
-    let _ = shard.run(before.as_slice())?;
-    let is_taken = shard.step(&tried).is_ok();
-    let _ = shard.run(after.as_slice())?;
-    let report = shard.step(&Step::Report {
-        tenant: 0,
-        now: 3100,
-    })?;
-    Ok((report, is_taken))
+    fixture: &mut Fixture,
+    tried: &Tried,
+) -> Result<(), Fail> {
+    lines_are_told(rt, alloc, fixture, tried.before)?;
+    let post = step_of(rt, alloc, &fixture.settings, tried.post)?;
+    let behind = match fixture.shard.step(&post) {
+        Ok(_) => tried.taken,
+        Err(_) => tried.refused,
+    };
+    lines_are_told(rt, alloc, fixture, behind)
 }
 
-/// Whether the report is this one where the post was taken, and that one where it was refused.
-fn is_reported<R: Threads + Sync>(
-    rt: &R,
-    alloc: Global,
-    table: &str,
-    taken: &str,
-    refused: &str,
-) -> Result<bool, Fail> {
-    let settings = settings_of(alloc, &[table])?;
-    let (report, is_taken) = reported(rt, alloc, &settings)?;
-    is_told(alloc, &report, if is_taken { taken } else { refused })
+/// The same of a new shard.
+fn is_tried<R: Threads + Sync>(rt: &R, alloc: Global, tried: &Tried) -> Result<(), Fail> {
+    let mut fixture = shard_of(alloc, &[tried.table], &[0])?;
+    lines_around_are_told(rt, alloc, &mut fixture, tried)
 }
 
 #[test]
 fn a_refused_post_leaves_what_is_remembered_as_it_was(rt: HostRuntime) -> Result<(), Fail> {
-    let sampled = is_reported(
-        &rt,
-        rt.alloc(),
-        TWO_SAMPLED,
-        "report a accepted=7 undecided=1 pending=0 queued=5 active=0 exported=0 not_sampled=0 too_early=1 \
-queue_full=0 retry_exhausted=0 back_end_refused=0 back_end_rejected=0 invalid=0 over_budget=0",
-        "report a accepted=5 undecided=1 pending=0 queued=4 active=0 exported=0 not_sampled=0 too_early=0 \
-queue_full=0 retry_exhausted=0 back_end_refused=0 back_end_rejected=0 invalid=0 over_budget=0",
-    )?;
-    assert!(rt; sampled);
-    let dropped = is_reported(
-        &rt,
-        rt.alloc(),
-        TWO_DROPPED,
-        "report a accepted=7 undecided=1 pending=0 queued=0 active=0 exported=0 not_sampled=5 too_early=1 \
-queue_full=0 retry_exhausted=0 back_end_refused=0 back_end_rejected=0 invalid=0 over_budget=0",
-        "report a accepted=5 undecided=1 pending=0 queued=0 active=0 exported=0 not_sampled=4 too_early=0 \
-queue_full=0 retry_exhausted=0 back_end_refused=0 back_end_rejected=0 invalid=0 over_budget=0",
-    )?;
-    assert!(rt; dropped);
-    Ok(())
-}
-
-/// Trace 11 was sampled, and a late span of it is pending from 1000 on.
-const PENDING: &str = "post a 0 11.21+11.22+11.23 = reply a 200 -
-turn 0 1000 = job a 1 11.21+11.22+11.23
-post a 1000 11.24 = reply a 200 -";
-
-/// The first of these late spans waits too, the second fills a batch, and the third waits.
-const LATE: &str = "post a 1100 11.25+11.26+11.27";
-
-/// What leaves then, where they came.
-const LATE_LEAVE: &str = "turn 0 1999 = job a 2 11.24+11.25+11.26
-turn 0 2000 = idle 0
-turn 0 2099 = idle 0
-turn 0 2100 = job a 3 11.27";
-
-/// And where they were refused: the span that was pending, at its own time.
-const ONE_LEAVES: &str = "turn 0 1999 = idle 0
-turn 0 2000 = job a 2 11.24
-turn 0 2099 = idle 0
-turn 0 2100 = idle 0";
-
-/// What leaves after the late spans, and whether they were taken.
-fn left_after<R: Threads + Sync>(
-    rt: &R,
-    alloc: Global,
-    settings: &Settings,
-) -> Result<(Vec<u8>, bool), Fail> {
-    let before = steps_of(rt, alloc, settings, PENDING)?;
-    let tried = step_of(rt, alloc, settings, LATE)?;
-    let after = steps_of(rt, alloc, settings, LATE_LEAVE)?;
-    let mut shard = Shard::open(alloc, settings, &[0])?;
-    let _ = shard.run(before.as_slice())?;
-    let is_taken = shard.step(&tried).is_ok();
-    let outcomes = shard.run(after.as_slice())?;
-    let mut out = Vec::new(alloc);
-    put_all(alloc, &mut out, outcomes.as_slice())?;
-    Ok((out, is_taken))
+    is_tried(&rt, rt.alloc(), &SAMPLED)?;
+    is_tried(&rt, rt.alloc(), &DROPPED)
 }
 
 #[test]
 fn a_refused_post_leaves_what_is_pending_as_it_was(rt: HostRuntime) -> Result<(), Fail> {
-    let settings = settings_of(rt.alloc(), &[THREES])?;
-    let (out, is_taken) = left_after(&rt, rt.alloc(), &settings)?;
-    let wanted = if is_taken { LATE_LEAVE } else { ONE_LEAVES };
-    assert!(rt; out.as_slice() == answers_of(rt.alloc(), wanted)?.as_bytes());
-    Ok(())
+    is_tried(&rt, rt.alloc(), &LATE)
 }

@@ -1,8 +1,9 @@
-//! Settings, and what they say of tenants beside their names.
+//! Settings, what they say of tenants beside their names, and a shard of such tenants.
 
-use std::alloc::Global;
+use std::alloc::{AllocError, Global};
 use std::test::Fail;
 use tail_settings::{Settings, load};
+use tenant_shard::Shard;
 
 /// Every trace is sampled a second after it opened, each group of spans is a batch, and one batch at a time is on its
 /// way.
@@ -50,11 +51,29 @@ policy = [{ type = \"status_code\", status_codes = [\"ERROR\"] }] }, batch = { t
 
 /// Settings of tenants a, b and c, or the first of them, each with these tables.
 pub fn settings_of(alloc: Global, tables: &[&str]) -> Result<Settings, Fail> {
-    let mut text = String::from_str(alloc, "tenant = [")?;
+    let mut tenants = String::new(alloc);
     for (name, table) in ["a", "b", "c"].iter().zip(tables.iter()) {
-        let section = format!(in alloc; "{{ name = \"{name}\", {table} }}, ")?;
-        text.push_str(section.as_str())?;
+        tenants = format!(in alloc; "{tenants}{{ name = \"{name}\", {table} }}, ")?;
     }
-    text.push_str("]")?;
+    let text = format!(in alloc; "tenant = [{tenants}]")?;
     Ok(load(alloc, text.as_str())?)
+}
+
+/// A shard, and the settings of its tenants.
+#[derive(Drop)]
+pub struct Fixture {
+    pub settings: Settings,
+    pub shard: Shard,
+}
+
+/// A new shard with these members.
+pub fn opened(alloc: Global, settings: Settings, members: &[u32]) -> Result<Fixture, AllocError> {
+    let shard = Shard::open(alloc, &settings, members)?;
+    Ok(Fixture { settings, shard })
+}
+
+/// A new shard with these members, of tenants with these tables.
+pub fn shard_of(alloc: Global, tables: &[&str], members: &[u32]) -> Result<Fixture, Fail> {
+    let settings = settings_of(alloc, tables)?;
+    Ok(opened(alloc, settings, members)?)
 }
