@@ -3,6 +3,7 @@
 use crate::answers::{ANSWERS, LONG_ANSWERS};
 use crate::names::NAMES;
 use crate::notation::{Name, names_of, unfolded};
+use crate::ways::{are_all, failing_line};
 use export_edge::post_over;
 use http_edge::{EdgeFault, read_answer, write_post};
 use http_line::{Line, MemoryLine};
@@ -151,8 +152,7 @@ fn fails_early(alloc: Global, case: &Case) -> Result<bool, AllocError> {
 /// doesn't fail. Two calls write the post.
 fn breaks_off(alloc: Global, case: &Case) -> Result<bool, AllocError> {
     for fuse in 1..1000u64 {
-        let input = Vec::from_slice(alloc, &case.input)?;
-        let mut line = MemoryLine::new(input, vec![in alloc; 4usize; 100]?, Vec::new(alloc), fuse);
+        let mut line = failing_line(alloc, &case.input, 4, fuse)?;
         let answer = post_over(alloc, &mut line, "h:1", b"abc");
         if line.failures() == 0 {
             return Ok(fuse > 3 && line.output() == POST && is(&answer, case));
@@ -174,26 +174,22 @@ fn is_told_or_refused(alloc: Global, case: &Case) -> Result<bool, AllocError> {
 
 #[test]
 fn answers_cut_at_each_byte(rt: HostRuntime) -> Result<(), Fail> {
-    assert_eq!(rt; walk(rt.alloc(), ANSWERS, Way::Cut)?, (63, ""));
-    Ok(())
+    are_all(&rt, walk(rt.alloc(), ANSWERS, Way::Cut), 63)
 }
 
 #[test]
 fn long_answers(rt: HostRuntime) -> Result<(), Fail> {
-    assert_eq!(rt; walk(rt.alloc(), LONG_ANSWERS, Way::Long)?, (4, ""));
-    Ok(())
+    are_all(&rt, walk(rt.alloc(), LONG_ANSWERS, Way::Long), 4)
 }
 
 #[test]
 fn answers_that_break_off(rt: HostRuntime) -> Result<(), Fail> {
-    assert_eq!(rt; walk(rt.alloc(), ANSWERS, Way::Failing)?, (63, ""));
-    Ok(())
+    are_all(&rt, walk(rt.alloc(), ANSWERS, Way::Failing), 63)
 }
 
 #[test]
 fn answers_with_or_without_memory(rt: HostRuntime) -> Result<(), Fail> {
-    assert_eq!(rt; walk(rt.alloc(), ANSWERS, Way::Refused)?, (63, ""));
-    Ok(())
+    are_all(&rt, walk(rt.alloc(), ANSWERS, Way::Refused), 63)
 }
 
 /// Which fault it is where a write or a read fails.

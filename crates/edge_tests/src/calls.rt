@@ -38,7 +38,21 @@ fn is_made<R: Threads + Sync, H: Handler>(
     Ok(line.failures() == 1)
 }
 
-/// Whether a message is answered by so many calls of its line where its body is wanted, and by so many where it isn't.
+/// Whether a message is answered by so many calls of its line.
+fn is_by<R: Threads + Sync, H: Handler>(
+    rt: &R,
+    alloc: Global,
+    handler: &mut H,
+    message: Message,
+    calls: u64,
+) -> Result<bool, AllocError> {
+    Ok(
+        is_made(rt, alloc, handler, message, calls)?
+            && !is_made(rt, alloc, handler, message, calls.saturating_add(1))?,
+    )
+}
+
+/// The same by so many where its body is wanted, and by so many where it isn't.
 fn is_answered_by<R: Threads + Sync>(
     rt: &R,
     alloc: Global,
@@ -52,16 +66,8 @@ fn is_answered_by<R: Threads + Sync>(
     };
     let mut heedless = Heedless { alloc, given: 0 };
     Ok(
-        is_made(rt, alloc, &mut wants, message, wanted)?
-            && !is_made(rt, alloc, &mut wants, message, wanted.saturating_add(1))?
-            && is_made(rt, alloc, &mut heedless, message, unwanted)?
-            && !is_made(
-                rt,
-                alloc,
-                &mut heedless,
-                message,
-                unwanted.saturating_add(1),
-            )?,
+        is_by(rt, alloc, &mut wants, message, wanted)?
+            && is_by(rt, alloc, &mut heedless, message, unwanted)?,
     )
 }
 

@@ -21,13 +21,14 @@ fn writes<L: Line>(line: &mut L, bytes: &[u8], count: usize) -> bool {
 fn what_is_written_to_a_queue_is_read_from_it(rt: HostRuntime) {
     let mut line = StreamLine::new(VecDeque::new(rt.alloc()));
     let mut room = [0u8; 2];
-    assert!(rt;
-        writes(&mut line, b"abc", 3)
-            && reads(&mut line, &mut room, 2, b"ab")
-            && reads(&mut line, &mut room, 1, b"cb")
-            && reads(&mut line, &mut room, 0, b"")
-            && line.failures() == 0
-    );
+    let calls = [
+        writes(&mut line, b"abc", 3),
+        reads(&mut line, &mut room, 2, b"ab"),
+        reads(&mut line, &mut room, 1, b"cb"),
+        reads(&mut line, &mut room, 0, b""),
+        line.failures() == 0,
+    ];
+    assert!(rt; calls == [true; 5]);
 }
 
 /// A stream that pauses in so many calls, with this error, before each in which it doesn't. So many of these take or
@@ -88,16 +89,17 @@ fn what_is_interrupted_is_tried_again(rt: HostRuntime) {
         fails: true,
     });
     let mut room = [0u8; 2];
-    assert!(rt;
-        reads(&mut line, &mut room, 1, b"")
-            && writes(&mut line, b"abc", 1)
-            && reads(&mut line, &mut room, 1, b"")
-            && writes(&mut line, b"bc", 1)
-            && line.failures() == 0
-            && line.read_some(&mut room).is_err()
-            && line.write_some(b"c").is_err()
-            && line.failures() == 2
-    );
+    let calls = [
+        reads(&mut line, &mut room, 1, b""),
+        writes(&mut line, b"abc", 1),
+        reads(&mut line, &mut room, 1, b""),
+        writes(&mut line, b"bc", 1),
+        line.failures() == 0,
+        line.read_some(&mut room).is_err(),
+        line.write_some(b"c").is_err(),
+        line.failures() == 2,
+    ];
+    assert!(rt; calls == [true; 8]);
 }
 
 /// A socket's limits of time are told so, and then the peer has rested for long enough.
@@ -112,13 +114,14 @@ fn what_runs_into_a_limit_is_not_tried_again(rt: HostRuntime) {
             fails: true,
         });
         let mut room = [0u8; 2];
-        assert!(rt;
-            line.read_some(&mut room).is_err()
-                && reads(&mut line, &mut room, 1, b"")
-                && line.write_some(b"a").is_err()
-                && writes(&mut line, b"a", 1)
-                && line.failures() == 2
-        );
+        let calls = [
+            line.read_some(&mut room).is_err(),
+            reads(&mut line, &mut room, 1, b""),
+            line.write_some(b"a").is_err(),
+            writes(&mut line, b"a", 1),
+            line.failures() == 2,
+        ];
+        assert!(rt; calls == [true; 5]);
     }
 }
 
@@ -132,14 +135,15 @@ fn a_stream_that_takes_no_byte_has_failed(rt: HostRuntime) {
         fails: false,
     });
     let mut room = [0u8; 2];
-    assert!(rt;
-        reads(&mut line, &mut room, 0, b"")
-            && line.failures() == 0
-            && line.write_some(b"a").is_err()
-            && line.write_some(b"a").is_err()
-            && line.failures() == 2
-            && writes(&mut line, b"", 0)
-    );
+    let calls = [
+        reads(&mut line, &mut room, 0, b""),
+        line.failures() == 0,
+        line.write_some(b"a").is_err(),
+        line.write_some(b"a").is_err(),
+        line.failures() == 2,
+        writes(&mut line, b"", 0),
+    ];
+    assert!(rt; calls == [true; 6]);
 }
 
 /// Pieces of two and three bytes and then the rest, and a fourth call that fails.
@@ -153,16 +157,17 @@ fn line_in_pieces(alloc: Global) -> Result<MemoryLine, AllocError> {
 fn a_line_in_memory_is_cut_and_fails_where_it_is_told(rt: HostRuntime) -> Result<(), Fail> {
     let mut line = line_in_pieces(rt.alloc())?;
     let mut room = [0u8; 9];
-    assert!(rt;
-        reads(&mut line, &mut room, 2, b"ab")
-            && reads(&mut line, &mut room, 3, b"cde")
-            && writes(&mut line, b"x", 1)
-            && line.read_some(&mut room).is_err()
-            && writes(&mut line, b"y", 1)
-            && reads(&mut line, &mut room, 4, b"fghi")
-            && reads(&mut line, &mut room, 0, b"")
-            && line.failures() == 1
-            && line.output() == b"xy".as_slice()
-    );
+    let calls = [
+        reads(&mut line, &mut room, 2, b"ab"),
+        reads(&mut line, &mut room, 3, b"cde"),
+        writes(&mut line, b"x", 1),
+        line.read_some(&mut room).is_err(),
+        writes(&mut line, b"y", 1),
+        reads(&mut line, &mut room, 4, b"fghi"),
+        reads(&mut line, &mut room, 0, b""),
+        line.failures() == 1,
+        line.output() == b"xy".as_slice(),
+    ];
+    assert!(rt; calls == [true; 9]);
     Ok(())
 }

@@ -6,12 +6,13 @@ use crate::handlers::{Echo, Front, Heedless, JsonEcho, Lacking, Measuring};
 use crate::names::NAMES;
 use crate::notation::names_of;
 use crate::talks::{JSON_TALKS, LONG_TALKS, TALKS};
-use crate::ways::{Way, walk};
+use crate::ways::{Way, are_all, walk};
 use http_edge::{
     Allow, EdgeFault, MediaType, RefusalForm, Reply, connection_buffer, reply_bytes, serve,
 };
 use http_line::{Line, MemoryLine};
 use std::alloc::{AllocError, Global};
+use std::process::Abort;
 use std::test::Fail;
 use std::thread::Threads;
 use tail_settings::{Settings, load};
@@ -48,8 +49,8 @@ fn echoed_in_json<R: Threads + Sync>(
     walk(rt, alloc, &mut JsonEcho, &names, JSON_TALKS, way)
 }
 
-/// How many connections to a front with these settings are as they have to be, and the first that isn't.
-fn routed_by<R: Threads + Sync>(
+/// How many connections to a front are as they have to be, and the first that isn't.
+fn routed<R: Threads + Sync>(
     rt: &R,
     alloc: Global,
     settings: &Settings,
@@ -60,66 +61,57 @@ fn routed_by<R: Threads + Sync>(
     walk(rt, alloc, &mut front, &names, CONNECTIONS, way)
 }
 
-/// The same of a front with two tenants.
-fn routed<R: Threads + Sync>(rt: &R, alloc: Global, way: Way) -> Result<(u32, &'static str), Fail> {
+/// All connections to a front with two tenants are as they have to be.
+fn are_routed<R: Threads + Sync + Abort>(rt: &R, alloc: Global, way: Way) -> Result<(), Fail> {
     let settings = load(alloc, SETTINGS)?;
-    Ok(routed_by(rt, alloc, &settings, way)?)
+    are_all(rt, routed(rt, alloc, &settings, way), 83)
 }
 
 #[test]
 fn talks_cut_at_each_byte(rt: HostRuntime) -> Result<(), Fail> {
-    assert_eq!(rt; echoed(&rt, rt.alloc(), TALKS, Way::Cut)?, (217, ""));
-    Ok(())
+    are_all(&rt, echoed(&rt, rt.alloc(), TALKS, Way::Cut), 217)
 }
 
 #[test]
 fn talks_that_break_off(rt: HostRuntime) -> Result<(), Fail> {
-    assert_eq!(rt; echoed(&rt, rt.alloc(), TALKS, Way::Failing)?, (217, ""));
-    Ok(())
+    are_all(&rt, echoed(&rt, rt.alloc(), TALKS, Way::Failing), 217)
 }
 
 /// What is looked at anew stays in proportion to what comes, so this takes seconds at most.
 #[test]
 fn long_talks(rt: HostRuntime) -> Result<(), Fail> {
-    assert_eq!(rt; echoed(&rt, rt.alloc(), LONG_TALKS, Way::Long)?, (23, ""));
-    Ok(())
+    are_all(&rt, echoed(&rt, rt.alloc(), LONG_TALKS, Way::Long), 23)
 }
 
 #[test]
 fn talks_with_or_without_memory(rt: HostRuntime) -> Result<(), Fail> {
-    assert_eq!(rt; echoed(&rt, rt.alloc(), TALKS, Way::Refused)?, (217, ""));
-    Ok(())
+    are_all(&rt, echoed(&rt, rt.alloc(), TALKS, Way::Refused), 217)
 }
 
 #[test]
 fn refusals_in_json(rt: HostRuntime) -> Result<(), Fail> {
-    assert_eq!(rt; echoed_in_json(&rt, rt.alloc(), Way::Cut)?, (15, ""));
-    assert_eq!(rt; echoed_in_json(&rt, rt.alloc(), Way::Failing)?, (15, ""));
-    Ok(())
+    are_all(&rt, echoed_in_json(&rt, rt.alloc(), Way::Cut), 15)?;
+    are_all(&rt, echoed_in_json(&rt, rt.alloc(), Way::Failing), 15)
 }
 
 #[test]
 fn refusals_in_json_with_or_without_memory(rt: HostRuntime) -> Result<(), Fail> {
-    assert_eq!(rt; echoed_in_json(&rt, rt.alloc(), Way::Refused)?, (15, ""));
-    Ok(())
+    are_all(&rt, echoed_in_json(&rt, rt.alloc(), Way::Refused), 15)
 }
 
 #[test]
 fn connections_cut_at_each_byte(rt: HostRuntime) -> Result<(), Fail> {
-    assert_eq!(rt; routed(&rt, rt.alloc(), Way::Cut)?, (83, ""));
-    Ok(())
+    are_routed(&rt, rt.alloc(), Way::Cut)
 }
 
 #[test]
 fn connections_that_break_off(rt: HostRuntime) -> Result<(), Fail> {
-    assert_eq!(rt; routed(&rt, rt.alloc(), Way::Failing)?, (83, ""));
-    Ok(())
+    are_routed(&rt, rt.alloc(), Way::Failing)
 }
 
 #[test]
 fn connections_with_or_without_memory(rt: HostRuntime) -> Result<(), Fail> {
-    assert_eq!(rt; routed(&rt, rt.alloc(), Way::Refused)?, (83, ""));
-    Ok(())
+    are_routed(&rt, rt.alloc(), Way::Refused)
 }
 
 /// Whether a client is told that there was no memory, be it that the handler had none or that it was not asked.

@@ -4,6 +4,8 @@ use crate::notation::{Name, unfolded};
 use http_edge::{EdgeFault, Handler, RefusalForm, connection_buffer, serve};
 use http_line::{Line, MemoryLine};
 use std::alloc::{AllocError, Global};
+use std::process::Abort;
+use std::test::Fail;
 use std::thread::Threads;
 
 /// A way in which a talk is gone through.
@@ -24,6 +26,16 @@ pub enum Way {
 struct Talk {
     input: Vec<u8>,
     want: Vec<u8>,
+}
+
+/// So many cases of a text were as they have to be, and none wasn't.
+pub fn are_all(
+    rt: &impl Abort,
+    told: Result<(u32, &'static str), AllocError>,
+    count: u32,
+) -> Result<(), Fail> {
+    assert_eq!(rt; told?, (count, ""));
+    Ok(())
 }
 
 /// Goes through the talks of a text, a line each, up to the first that isn't as it has to be. How many were, and that
@@ -128,7 +140,7 @@ fn breaks_off<R: Threads + Sync, H: Handler>(
     talk: &Talk,
 ) -> Result<bool, AllocError> {
     for fuse in 1..1000u64 {
-        let mut line = failing_line(alloc, &talk.input, fuse)?;
+        let mut line = failing_line(alloc, &talk.input, 9, fuse)?;
         match serve(rt, alloc, &mut line, handler, &mut used_buffer(alloc)?) {
             Ok(()) => return Ok(line.output() == talk.want.as_slice() && line.failures() == 0),
             Err(EdgeFault::OutOfMemory) => return Ok(false),
@@ -140,9 +152,14 @@ fn breaks_off<R: Threads + Sync, H: Handler>(
     Ok(false)
 }
 
-/// A line whose input comes in pieces of nine bytes, and whose call number `fuse` fails.
-fn failing_line(alloc: Global, input: &[u8], fuse: u64) -> Result<MemoryLine, AllocError> {
-    let pieces = vec![in alloc; 9usize; 100]?;
+/// A line whose input comes in pieces of so many bytes, and whose call number `fuse` fails.
+pub fn failing_line(
+    alloc: Global,
+    input: &[u8],
+    piece: usize,
+    fuse: u64,
+) -> Result<MemoryLine, AllocError> {
+    let pieces = vec![in alloc; piece; 100]?;
     let input = Vec::from_slice(alloc, input)?;
     Ok(MemoryLine::new(input, pieces, Vec::new(alloc), fuse))
 }

@@ -106,11 +106,14 @@ fn are_told<R: Threads + Wait + Sync>(
     let cut = &BODY[..33];
     let bad = b"\x12\x0cbad protobuf".as_slice();
     let unknown = b"\x12\x0eunknown tenant".as_slice();
-    is_told(rt, alloc, settings, hub, me, 0, 0, BODY, 200, b"")
-        && is_told(rt, alloc, settings, hub, me, 1, 1, BODY, 200, b"")
-        && is_told(rt, alloc, settings, hub, me, 0, 0, cut, 400, bad)
-        && is_told(rt, alloc, settings, hub, me, 7, 0, BODY, 403, unknown)
-        && is_told(rt, alloc, settings, hub, me, 1, 0, BODY, 403, unknown)
+    let told = [
+        is_told(rt, alloc, settings, hub, me, 0, 0, BODY, 200, b""),
+        is_told(rt, alloc, settings, hub, me, 1, 1, BODY, 200, b""),
+        is_told(rt, alloc, settings, hub, me, 0, 0, cut, 400, bad),
+        is_told(rt, alloc, settings, hub, me, 7, 0, BODY, 403, unknown),
+        is_told(rt, alloc, settings, hub, me, 1, 0, BODY, 403, unknown),
+    ];
+    told == [true; 5]
 }
 
 /// The same, of a hub that is opened for them.

@@ -5,7 +5,6 @@ use http_edge::Header;
 use service_runtime::{Line, is_let_in, next_line, write_text};
 use std::alloc::{AllocError, Global};
 use std::sync::Wait;
-use std::test::Fail;
 
 /// Whether the input's next line is this.
 fn is_next<R: Wait>(rt: &R, input: &mut &[u8], expected: &str) -> bool {
@@ -19,10 +18,13 @@ fn is_next<R: Wait>(rt: &R, input: &mut &[u8], expected: &str) -> bool {
 #[test]
 fn an_input_has_a_line_before_each_line_feed_and_one_behind_the_last(rt: HostRuntime) {
     let mut input = b"drain\n\nretire a".as_slice();
-    for expected in ["drain", "", "retire a"] {
-        assert!(rt; is_next(&rt, &mut input, expected), "{expected}");
-    }
-    assert!(rt; !is_next(&rt, &mut input, ""));
+    let found = [
+        is_next(&rt, &mut input, "drain"),
+        is_next(&rt, &mut input, ""),
+        is_next(&rt, &mut input, "retire a"),
+        is_next(&rt, &mut input, ""),
+    ];
+    assert!(rt; found == [true, true, true, false]);
 }
 
 #[test]
@@ -57,19 +59,19 @@ fn lets_in(
 }
 
 #[test]
-fn the_token_lets_in_and_without_one_no_page_may_change_anything(
-    rt: HostRuntime,
-) -> Result<(), Fail> {
+fn the_token_lets_in_and_without_one_no_page_may_change_anything(rt: HostRuntime) {
     let token = Some(b"a4".as_slice());
     let bearer = ("authorization", "Bearer a4");
     let other = ("authorization", "Bearer a5");
     let page = ("Origin", "http://localhost");
     let alloc = rt.alloc();
-    assert!(rt; lets_in(alloc, token, &AdminRoute::Drain, bearer)?);
-    assert!(rt; !lets_in(alloc, token, &AdminRoute::Tenants, other)?);
-    assert!(rt; lets_in(alloc, token, &AdminRoute::Health, other)?);
-    assert!(rt; lets_in(alloc, None, &AdminRoute::Drain, other)?);
-    assert!(rt; !lets_in(alloc, None, &AdminRoute::Drain, page)?);
-    assert!(rt; lets_in(alloc, None, &AdminRoute::Tenants, page)?);
-    Ok(())
+    let are_let_in = [
+        lets_in(alloc, token, &AdminRoute::Drain, bearer),
+        lets_in(alloc, token, &AdminRoute::Tenants, other),
+        lets_in(alloc, token, &AdminRoute::Health, other),
+        lets_in(alloc, None, &AdminRoute::Drain, other),
+        lets_in(alloc, None, &AdminRoute::Drain, page),
+        lets_in(alloc, None, &AdminRoute::Tenants, page),
+    ];
+    assert!(rt; are_let_in == [Ok(true), Ok(false), Ok(true), Ok(true), Ok(false), Ok(true)]);
 }

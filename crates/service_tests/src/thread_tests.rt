@@ -128,6 +128,6 @@ fn send_both<R: Threads + Wait + Sync>(rt: &R, alloc: Global) -> Result<(u32, u3
 /// one sender would hand in both, the first of them failed.
 #[test]
 fn a_back_end_that_holds_one_answer_does_not_hold_the_others(rt: HostRuntime) -> Result<(), Fail> {
-    assert_eq!(rt; send_both(&rt, rt.alloc())?, (1, 1, 2));
+    assert!(rt; send_both(&rt, rt.alloc())? == (1, 1, 2));
     Ok(())
 }

@@ -43,7 +43,7 @@ fn turned<R: Wait>(rt: &R, alloc: Global) -> Option<([u64; 4], u32, u64, u128)> 
 /// second, a turn with nothing to do, a turn for the third, and two pushes at a lane that is full.
 #[test]
 fn jobs_are_pushed_in_order_and_kept_where_the_lane_is_full(rt: HostRuntime) {
-    assert_eq!(rt; turned(&rt, rt.alloc()), Some(([3, 1, 2, 0], 3, 5, 2)));
+    assert!(rt; turned(&rt, rt.alloc()) == Some(([3, 1, 2, 0], 3, 5, 2)));
 }
 
 /// Pushes a job, for which there is room.
@@ -82,9 +82,6 @@ fn sent<R: Wait>(rt: &R, alloc: Global) -> Result<(u64, u64, u32, u128), Fail> {
 /// Two jobs of two tenants. The first answer is refused twice, and handed in at the third moment.
 #[test]
 fn jobs_are_posted_once_and_their_answers_handed_in(rt: HostRuntime) -> Result<(), Fail> {
-    assert_eq!(rt;
-        sent(&rt, rt.alloc())?,
-        (200_503, 73_200_200_84_503_503, 3, 2)
-    );
+    assert!(rt; sent(&rt, rt.alloc())? == (200_503, 73_200_200_84_503_503, 3, 2));
     Ok(())
 }

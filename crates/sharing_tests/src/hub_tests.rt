@@ -4,7 +4,7 @@ ghost use Rattle.std.specs.Prelude.{◌≡◌, ◌<◌, [], false, length};
 ghost use Rattle.machine_hub.specs.Hub.{slots_of};
 
 use crate::counter::Counter;
-use machine_hub::{Caller, Hub, LoggedMachine, OptionalLog};
+use machine_hub::{Caller, Hub, HubKeeper, LoggedMachine, OptionalLog};
 use std::alloc::Global;
 use std::sync::Wait;
 use std::test::Fail;
@@ -47,47 +47,64 @@ fn three_calls<R: Wait>(
     Took { caller, positions }
 }
 
+/// Three calls of each of two threads.
+fn both_call<R: Threads + Wait + Sync>(
+    rt: &R,
+    alloc: Global,
+    hub: &Hub<Counter, OptionalLog<Counter>>,
+    one: Caller<Counter, OptionalLog<Counter>>,
+    two: Caller<Counter, OptionalLog<Counter>>,
+) -> (Took, Took)
+    requires shard { 0 < length hub.now }
+    requires same_hub { (slots_of one ≡ hub.now) × (slots_of two ≡ hub.now) }
+    ensures first { slots_of result.0.caller ≡ hub.now }
+    ensures second { slots_of result.1.caller ≡ hub.now }
+{
+    join(
+        rt,
+        move || -> Took
+            requires { (0 < length hub.now) × (slots_of one ≡ hub.now) }
+            ensures { slots_of result.caller ≡ hub.entry.now }
+        { three_calls(rt, alloc, hub, one) },
+        move || -> Took
+            requires { (0 < length hub.now) × (slots_of two ≡ hub.now) }
+            ensures { slots_of result.caller ≡ hub.entry.now }
+        { three_calls(rt, alloc, hub, two) },
+    )
+}
+
+/// How many entries the log of the last shard has, once the hub's callers are back and it is closed.
+fn entries_of<R: Wait>(
+    rt: &R,
+    alloc: Global,
+    hub: Hub<Counter, OptionalLog<Counter>>,
+    keeper: HubKeeper<Counter, OptionalLog<Counter>>,
+    one: Caller<Counter, OptionalLog<Counter>>,
+    two: Caller<Counter, OptionalLog<Counter>>,
+) -> Option<usize>
+    requires keeper { keeper.slots ≡ hub }
+    requires same_hub { (slots_of one ≡ hub) × (slots_of two ≡ hub) }
+{
+    let callers = vec![in alloc; one, two].ok()?;
+    let mut shards = hub.close(rt, keeper, callers).ok()?;
+    let (_counter, log) = shards.pop()?.into_parts();
+    Some(log.kept.len())
+}
+
 /// Six calls of two threads on one shard: how many entries its log has, and the positions of each thread's calls.
 fn two_threads<R: Threads + Wait + Sync>(
     rt: &R,
     alloc: Global,
-) -> Result<(usize, [u64; 3], [u64; 3]), Fail> {
-    let mut machines = Vec::new(alloc);
-    machines.push(logged(alloc))?;
+) -> Result<(Option<usize>, [u64; 3], [u64; 3]), Fail> {
+    let machines = vec![in alloc; logged(alloc)]?;
     let (hub, keeper, mut callers) = Hub::open(rt, alloc, machines, 2)?;
     let (Some(one), Some(two)) = (callers.pop(), callers.pop()) else {
         return Err("two callers".into());
     };
-    let shared = &hub;
-    let (one, two) = join(
-        rt,
-        move || -> Took
-            requires { (0 < length shared.now) × (slots_of one ≡ shared.now) }
-            ensures { slots_of result.caller ≡ shared.entry.now }
-        { three_calls(rt, alloc, shared, one) },
-        move || -> Took
-            requires { (0 < length shared.now) × (slots_of two ≡ shared.now) }
-            ensures { slots_of result.caller ≡ shared.entry.now }
-        { three_calls(rt, alloc, shared, two) },
-    );
-    let Took {
-        caller,
-        positions: ones,
-    } = one;
-    callers.push(caller)?;
-    let Took {
-        caller,
-        positions: others,
-    } = two;
-    callers.push(caller)?;
-    let Ok(mut shards) = hub.close(rt, keeper, callers) else {
-        return Err("all callers came".into());
-    };
-    let Some(shard) = shards.pop() else {
-        return Err("a shard".into());
-    };
-    let (_counter, log) = shard.into_parts();
-    Ok((log.kept.len(), ones, others))
+    let (one, two) = both_call(rt, alloc, &hub, one, two);
+    let (ones, others) = (one.positions, two.positions);
+    let entries = entries_of(rt, alloc, hub, keeper, one.caller, two.caller);
+    Ok((entries, ones, others))
 }
 
 /// A bit for each of the first six positions.
@@ -115,7 +132,7 @@ fn rise(positions: [u64; 3]) -> bool {
 #[test]
 fn each_call_has_its_entry(rt: HostRuntime) -> Result<(), Fail> {
     let (entries, ones, others) = two_threads(&rt, rt.alloc())?;
-    assert_eq!(rt; entries, 6);
+    assert!(rt; entries == Some(6));
     assert!(rt; rise(ones) && rise(others));
     assert_eq!(rt; bits(ones) | bits(others), 63);
     Ok(())

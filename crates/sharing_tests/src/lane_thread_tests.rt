@@ -88,6 +88,33 @@ fn count_up(tickets: &[u64]) -> bool {
     true
 }
 
+/// One thread pushes so many jobs while another pops so many.
+fn push_and_pop<R: Threads + Wait + Sync>(
+    rt: &R,
+    alloc: Global,
+    lane: &Lane,
+    one: LaneSeat,
+    pushes: u64,
+    two: LaneSeat,
+    pops: u64,
+) -> (LaneSeat, Popped)
+    requires { (one.lane ≡ lane.now.name) × (two.lane ≡ lane.now.name) }
+    ensures first { result.0.lane ≡ lane.now.name }
+    ensures second { result.1.seat.lane ≡ lane.now.name }
+{
+    join(
+        rt,
+        move || -> LaneSeat
+            requires { one.lane ≡ lane.now.name }
+            ensures { result.lane ≡ lane.entry.now.name }
+        { push_some(rt, lane, one, pushes) },
+        move || -> Popped
+            requires { two.lane ≡ lane.now.name }
+            ensures { result.seat.lane ≡ lane.entry.now.name }
+        { pop_some(rt, alloc, lane, two, pops) },
+    )
+}
+
 /// Runs both threads. Gives how many tickets came out, whether they did in order, and the lane's totals.
 fn run_both<R: Threads + Wait + Sync>(
     rt: &R,
@@ -99,24 +126,13 @@ fn run_both<R: Threads + Wait + Sync>(
     requires { 0 < capacity }
 {
     let (lane, keeper, mut seats) = Lane::open(alloc, capacity, 2).ok()?;
-    let one = seats.pop()?;
-    let two = seats.pop()?;
-    let shared = &lane;
-    let (one, popped) = join(
-        rt,
-        move || -> LaneSeat
-            requires { one.lane ≡ shared.now.name }
-            ensures { result.lane ≡ shared.entry.now.name }
-        { push_some(rt, shared, one, pushes) },
-        move || -> Popped
-            requires { two.lane ≡ shared.now.name }
-            ensures { result.seat.lane ≡ shared.entry.now.name }
-        { pop_some(rt, alloc, shared, two, pops) },
-    );
+    let (Some(one), Some(two)) = (seats.pop(), seats.pop()) else {
+        return None;
+    };
+    let (one, popped) = push_and_pop(rt, alloc, &lane, one, pushes, two, pops);
     let in_order = count_up(&popped.tickets);
     let count = popped.tickets.len();
-    seats.push(one).ok()?;
-    seats.push(popped.seat).ok()?;
+    let seats = vec![in alloc; one, popped.seat].ok()?;
     Some((count, in_order, lane.close(rt, keeper, seats)))
 }
 
@@ -128,10 +144,7 @@ fn two_threads_take_turns(rt: HostRuntime) {
         taken: 500,
         left: 0,
     };
-    assert_eq!(rt;
-        run_both(&rt, rt.alloc(), 1, 500, 500),
-        Some((500, true, totals))
-    );
+    assert!(rt; run_both(&rt, rt.alloc(), 1, 500, 500) == Some((500, true, totals)));
 }
 
 /// A lane of 256: 200 of 1,000 jobs are left, which were never popped.
@@ -142,8 +155,5 @@ fn some_jobs_are_left(rt: HostRuntime) {
         taken: 800,
         left: 200,
     };
-    assert_eq!(rt;
-        run_both(&rt, rt.alloc(), 256, 1000, 800),
-        Some((800, true, totals))
-    );
+    assert!(rt; run_both(&rt, rt.alloc(), 256, 1000, 800) == Some((800, true, totals)));
 }

@@ -1,14 +1,15 @@
 //! A story of three tenants in two shards, and of a fourth that comes and goes, called by one thread.
 
-ghost use Rattle.std.specs.Prelude.{◌≡◌, IfSome};
+ghost use Rattle.std.specs.Prelude.{◌≡◌};
 ghost use Rattle.machine_hub.specs.Hub.{slots_of};
 
-use crate::calls::{made, stepped};
+use crate::calls::{Made, made, stepped};
 use crate::outcomes::{is_entry, is_outcome, is_waiting};
 use crate::story::{Line, SETTINGS, STORY, line_of};
 use decision_cache::HashKeys;
 use shared_hub::{Caller, Entry, HubKeeper, Receipt, ShardLog, SharedHub};
 use std::alloc::Global;
+use std::process::Abort;
 use std::sync::{Arc, Wait};
 use std::test::Fail;
 use std::thread::Threads;
@@ -99,17 +100,20 @@ fn has_calls(alloc: Global, kept: &[Arc<Entry, Global>], shard: &str) -> bool {
     next == kept.len()
 }
 
-/// Whether a shard's log has as many entries as receipts were given, and where it has any, the story's calls.
+/// Whether a log has as many entries as receipts were given, and where it has any, the story's calls at this shard.
+fn is_kept(alloc: Global, kept: &[Arc<Entry, Global>], made: u64, given: u64, shard: &str) -> bool {
+    made == given && (made == 0 && kept.is_empty() || has_calls(alloc, kept, shard))
+}
+
+/// The same of a shard's log.
 fn is_logged(alloc: Global, shard: ShardLog, next: &[u64; 2]) -> bool {
     let made = shard.made();
-    let name = if shard.number() == 0 { "0" } else { "1" };
-    let given = if shard.number() == 0 {
-        next[0]
-    } else {
-        next[1]
+    let (name, given) = match shard.number() {
+        0 => ("0", next[0]),
+        _ => ("1", next[1]),
     };
     let (_machine, log) = shard.into_parts();
-    made == given && (made == 0 && log.kept.is_empty() || has_calls(alloc, &log.kept, name))
+    is_kept(alloc, &log.kept, made, given, name)
 }
 
 /// The same of both shards.
@@ -119,6 +123,27 @@ fn are_logged(alloc: Global, logs: Vec<ShardLog>, next: &[u64; 2]) -> bool {
         is_well = is_logged(alloc, shard, next) && is_well;
     }
     is_well
+}
+
+/// Closes a hub, whose caller comes back, and looks at its logs.
+fn is_closed<R: Wait>(
+    rt: &R,
+    alloc: Global,
+    hub: SharedHub,
+    keeper: HubKeeper,
+    me: Caller,
+    next: &[u64; 2],
+) -> bool
+    requires keeper { keeper.slots ≡ hub }
+    requires same_hub { slots_of me ≡ hub }
+{
+    let Ok(callers) = vec![in alloc; me] else {
+        return false;
+    };
+    match hub.close(rt, keeper, callers) {
+        Ok(logs) => are_logged(alloc, logs, next),
+        Err(_missing) => false,
+    }
 }
 
 /// Opens a hub, makes the calls of the story, closes it and looks at its logs.
@@ -136,70 +161,77 @@ fn run_story<R: Threads + Wait + Sync>(
     };
     let mut next = [0u64; 2];
     let (count, wrong) = follow(rt, alloc, settings, &hub, &mut me, &mut next, keeps);
-    callers.push(me).ok()?;
-    let logs = hub.close(rt, keeper, callers).ok()?;
-    Some((count, wrong, are_logged(alloc, logs, &next)))
+    let is_well = is_closed(rt, alloc, hub, keeper, me, &next);
+    Some((count, wrong, is_well))
+}
+
+/// All calls of the story are told what stands there, and are in the logs.
+fn is_told_whole<R>(rt: &R, alloc: Global, keeps: bool) -> Result<(), Fail>
+where
+    R: Threads + Wait + Sync + Abort,
+{
+    let settings = load(alloc, SETTINGS)?;
+    assert_eq!(rt;
+        run_story(rt, alloc, &settings, keeps),
+        Some((56, "", true))
+    );
+    Ok(())
 }
 
 /// Each call is told what stands in the story, and the logs have each with its outcome, its word and its receipt.
 #[test]
 fn each_call_has_its_entry(rt: HostRuntime) -> Result<(), Fail> {
-    let settings = load(rt.alloc(), SETTINGS)?;
-    assert_eq!(rt;
-        run_story(&rt, rt.alloc(), &settings, true),
-        Some((56, "", true))
-    );
-    Ok(())
+    is_told_whole(&rt, rt.alloc(), true)
 }
 
 /// Where the logs keep nothing each call is told the same, and has no receipt.
 #[test]
 fn calls_are_told_the_same_without_logs(rt: HostRuntime) -> Result<(), Fail> {
-    let settings = load(rt.alloc(), SETTINGS)?;
-    assert_eq!(rt;
-        run_story(&rt, rt.alloc(), &settings, false),
-        Some((56, "", true))
-    );
-    Ok(())
+    is_told_whole(&rt, rt.alloc(), false)
 }
 
-/// The hub, which isn't closed without its caller.
-fn kept_open<R: Wait>(rt: &R, alloc: Global, hub: SharedHub, keeper: HubKeeper) -> Option<SharedHub>
-    requires { keeper.slots ≡ hub }
-    ensures { IfSome result (λ back. back ≡ hub) }
-{
-    match hub.close(rt, keeper, Vec::new(alloc)) {
-        Ok(_shards) => None,
-        Err(missing) => Some(missing.hub),
+/// Whether a call is an idle turn, and the first one at shard 1.
+fn is_first(made: Option<Made>) -> bool {
+    match made {
+        Some((Outcome::Idle, Some(receipt))) => receipt.shard == 1 && receipt.position == 0,
+        _ => false,
     }
 }
 
-/// The first call of a hub that wasn't closed, since its caller was missing.
-fn call_after_all<R: Wait>(
+/// Whether a hub isn't closed without its caller, whose turn is its first call then.
+fn is_kept_open<R: Wait>(
     rt: &R,
     alloc: Global,
-    settings: &Settings,
-) -> Option<(Outcome, Option<Receipt>)> {
+    hub: SharedHub,
+    keeper: HubKeeper,
+    away: &mut Caller,
+) -> bool
+    requires keeper { keeper.slots ≡ hub }
+    requires same_hub { slots_of away.old ≡ hub }
+{
+    match hub.close(rt, keeper, Vec::new(alloc)) {
+        Ok(_shards) => false,
+        Err(missing) => {
+            let turn = Step::Turn { now: 0 };
+            is_first(stepped(rt, alloc, &missing.hub, away, 1, turn))
+        }
+    }
+}
+
+/// The same of a new hub.
+fn is_new_kept_open<R: Wait>(rt: &R, alloc: Global, settings: &Settings) -> bool {
     let Ok((hub, keeper, mut callers)) = SharedHub::open(rt, alloc, settings, 1, true, KEYS) else {
-        return None;
+        return false;
     };
-    let Some(mut away) = callers.pop() else {
-        return None;
-    };
-    let Some(hub) = kept_open(rt, alloc, hub, keeper) else {
-        return None;
-    };
-    stepped(rt, alloc, &hub, &mut away, 1, Step::Turn { now: 0 })
+    match callers.pop() {
+        Some(mut away) => is_kept_open(rt, alloc, hub, keeper, &mut away),
+        None => false,
+    }
 }
 
 #[test]
 fn a_missing_caller_keeps_the_hub_open(rt: HostRuntime) -> Result<(), Fail> {
     let settings = load(rt.alloc(), SETTINGS)?;
-    let receipt = Receipt {
-        shard: 1,
-        position: 0,
-    };
-    let wanted = Some((Outcome::Idle, Some(receipt)));
-    assert!(rt; call_after_all(&rt, rt.alloc(), &settings) == wanted);
+    assert!(rt; is_new_kept_open(&rt, rt.alloc(), &settings));
     Ok(())
 }
