@@ -14,10 +14,12 @@ name twice (twice.pb), with the end's time twice (time.pb), or the status, empty
 a code in the other (apart.pb) or with both in both (statuses.pb), with each attribute's value before its key (keys.pb)
 or the lengths of its key and its text in four bytes (texts.pb), with one attribute more, whose value has two members
 (members.pb), with two in the value of each (pairs.pb), with a bool before the text in the value of each (bools.pb) or
-an array (arrays.pb), with one attribute more that has two values (couple.pb), with two values in each (couples.pb), and
-with a field that isn't known before each key (unknown.pb) or before the member of each value (within.pb). Each event,
-link and status of the stored body is written in reverse order in events.pb. Each span stands under a resource of its
-own, whose count stands before its attributes, in resources.pb."""
+an array (arrays.pb), with one attribute more that has two values (couple.pb), with two values in each (couples.pb) or
+three (triples.pb), with two members in an array that is the value of each (inner.pb) or two values in a list that is
+(listed.pb), with two arrays in the value of each (twins.pb), and with a field that isn't known before each key
+(unknown.pb) or before the member of each value (within.pb). Each event, link and status of the stored body is written
+in reverse order in events.pb. Each span stands under a resource of its own, whose count stands before its attributes,
+in resources.pb."""
 import pathlib
 import struct
 import sys
@@ -189,18 +191,43 @@ def two_members(content):
     return piece(1, key) + piece(2, value + varint(3 << 3) + varint(5))
 
 
-def beginning_with(member):
-    """What puts this member before the text that is an attribute's value."""
+def of_value(change):
+    """An attribute with its value changed so."""
     def attribute_of(content):
         (_, key, _), (_, value, _) = fields(content)
-        return piece(1, key) + piece(2, member + value)
+        return piece(1, key) + piece(2, change(value))
 
     return attribute_of
+
+
+def beginning_with(member):
+    """What puts this member before the text that is an attribute's value."""
+    return of_value(lambda value: member + value)
 
 
 def two_values(content):
     """An attribute with another value behind its own."""
     return content + piece(2, piece(1, b"other"))
+
+
+def three_values(content):
+    """An attribute with its value three times."""
+    return content + 2 * fields(content)[1][2]
+
+
+def two_members_in_array(value):
+    """An array of one value, which has a number before the text."""
+    return piece(5, piece(1, varint(3 << 3) + varint(5) + value))
+
+
+def two_values_in_list(value):
+    """A list of one attribute, which has this value twice."""
+    return piece(6, piece(1, piece(1, b"k") + 2 * piece(2, value)))
+
+
+def two_arrays(value):
+    """Two arrays of this value."""
+    return 2 * piece(5, piece(1, value))
 
 
 def with_couple(content):
@@ -339,11 +366,15 @@ def main():
                "unknown": changed(bodies["ordered"], each_inside({9}, unknown_first)),
                "within": changed(bodies["ordered"], each_inside({9}, unknown_in_value)),
                "pairs": changed(bodies["ordered"], each_inside({9}, two_members)),
-              "bools": changed(bodies["ordered"], each_inside({9}, beginning_with(BOOL))),
-              "arrays": changed(bodies["ordered"], each_inside({9}, beginning_with(ARRAY))),
-              "couple": changed(bodies["ordered"], with_couple),
-              "couples": changed(bodies["ordered"], each_inside({9}, two_values)),
-              "resources": of_own_resources(),
+               "bools": changed(bodies["ordered"], each_inside({9}, beginning_with(BOOL))),
+               "arrays": changed(bodies["ordered"], each_inside({9}, beginning_with(ARRAY))),
+               "couple": changed(bodies["ordered"], with_couple),
+               "couples": changed(bodies["ordered"], each_inside({9}, two_values)),
+               "triples": changed(bodies["ordered"], each_inside({9}, three_values)),
+               "inner": changed(bodies["ordered"], each_inside({9}, of_value(two_members_in_array))),
+               "listed": changed(bodies["ordered"], each_inside({9}, of_value(two_values_in_list))),
+               "twins": changed(bodies["ordered"], each_inside({9}, of_value(two_arrays))),
+               "resources": of_own_resources(),
                "events": changed(stored, each_inside({11, 13, 15}, reversed_fields))}
     for name, body in bodies.items():
         (folder / f"{name}.pb").write_bytes(body)
