@@ -129,6 +129,12 @@ def attributes_of_two_members(n):
     return tenant(), post(0, request([ids(1, 1) + text * n])) + DUE, "job a 1 "
 
 
+def attributes_of_an_array_and_a_text(n):
+    """The same with an array before a text in each value, which is looked into and left out."""
+    text = piece(9, piece(1, b"k") + piece(2, piece(5, piece(1, SOME_VALUE)) + SOME_VALUE))
+    return tenant(), post(0, request([ids(1, 1) + text * n])) + DUE, "job a 1 "
+
+
 def attributes_of_two_values(n):
     """The same with two values each, of which the last is put."""
     text = piece(9, piece(1, b"k") + piece(2, SOME_VALUE) * 2)
@@ -170,6 +176,14 @@ def values_at_each_level(n):
     value = b""
     for _ in range(28):
         value = piece(6, piece(1, piece(1, b"k") + piece(2, value) + piece(2, b"")))
+    return tenant(), post(0, request([ids(1, 1) + piece(9, piece(1, b"k") + piece(2, value)) * n])) + DUE, "job a 1 "
+
+
+def last_values_at_each_level(n):
+    """The same with a text as the first of both values, which gives place to the list behind it at each level."""
+    value = SOME_VALUE
+    for _ in range(28):
+        value = piece(6, piece(1, piece(1, b"k") + piece(2, SOME_VALUE) + piece(2, value)))
     return tenant(), post(0, request([ids(1, 1) + piece(9, piece(1, b"k") + piece(2, value)) * n])) + DUE, "job a 1 "
 
 
@@ -343,6 +357,7 @@ SHAPES = {
     "attributes of two arrays": (attributes_to_be_read, 12_500),
     "the same, apart": (attributes_to_be_read_apart, 12_500),
     "attributes of two members": (attributes_of_two_members, 12_500),
+    "attributes of an array and a text": (attributes_of_an_array_and_a_text, 12_500),
     "attributes of two values": (attributes_of_two_values, 12_500),
     "the same, joined": (attributes_of_two_values_joined, 12_500),
     "values of an attribute": (values_of_attribute, 50_000),
@@ -350,6 +365,7 @@ SHAPES = {
     "attributes of a resource put anew": (attributes_of_a_resource, 12_500),
     "events of two counts": (events_of_two_counts, 12_500),
     "two values at each level": (values_at_each_level, 250),
+    "a text before a list at each level": (last_values_at_each_level, 250),
     "spans in reverse order": (spans_reversed, 4_000),
     "spans with defaults": (spans_with_defaults, 8_000),
     "spans with two names": (spans_with_two_names, 4_000),

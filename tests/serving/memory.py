@@ -26,11 +26,12 @@ EMPTY = piece(1, b"")
 URL = piece(3, b"u")
 # A count of 1 in two bytes, of a resource and of a scope, so that neither is canonical.
 LONG_COUNT, LONG_COUNT_OF_SCOPE = b"\x10\x81\x00", b"\x20\x81\x00"
-# Two values of an attribute, of which the last is put, or one that is made of both; a bool that isn't written as one; and
-# two arrays in one value, for which what it stands in is read as a message.
+# Two values of an attribute, of which the last is put, or one that is made of both; a bool that isn't written as one; an
+# array before a text in one value; and two arrays in one, for which what it stands in is read as a message.
 TWO_VALUES = piece(1, b"k") + 2 * piece(2, piece(1, b"v"))
 TWO_VALUES_JOINED = piece(1, b"k") + piece(2, piece(5, b"")) + piece(2, piece(1, b"v"))
 BOOL_OF_TWO = piece(1, b"k") + piece(2, number_field(2, 2))
+AN_ARRAY_AND_A_TEXT = piece(1, b"k") + piece(2, piece(5, b"") + piece(1, b"v"))
 TWO_ARRAYS = piece(1, b"k") + piece(2, 2 * piece(5, b""))
 # An array in each of two values, for which this attribute alone is read as a message.
 AN_ARRAY_IN_EACH = piece(1, b"k") + 2 * piece(2, piece(5, b""))
@@ -129,6 +130,8 @@ SHAPES = {
     "lists in lists beside two of two values": (lists(9), in_span(before=2 * piece(9, TWO_VALUES_JOINED)), 5),
     "attributes of a resource with a bool of two": (EMPTY, under(piece(1, BOOL_OF_TWO)), 5),
     "attributes of an event with a bool of two": (piece(3, b""), in_span(number=11, behind=piece(3, BOOL_OF_TWO)), 5),
+    "attributes of a resource with an array and a text": (EMPTY, under(piece(1, AN_ARRAY_AND_A_TEXT)), 5),
+    "attributes beside two of an array and a text": (piece(9, b""), in_span(before=2 * piece(9, AN_ARRAY_AND_A_TEXT)), 5),
     "attributes before an event with a bool of two": (
         piece(9, b""), in_span(behind=piece(11, TWICE_COUNTED + piece(3, BOOL_OF_TWO))), 5),
     "attributes behind one that is read alone": (piece(9, b""), in_span(before=piece(9, AN_ARRAY_IN_EACH)), 5),
