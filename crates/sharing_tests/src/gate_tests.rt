@@ -1,30 +1,34 @@
 //! Two threads at two shards at once; and what is told once memory was refused.
 
-ghost use Rattle.std.specs.Prelude.{◌≡◌, ◌<◌, [], length, false};
+ghost use Rattle.std.specs.Prelude.{◌≡◌, ◌<◌, [], length, false, IfOk};
 ghost use Rattle.machine_hub.specs.Hub.{slots_of};
 
 use crate::counter::Counter;
 use crate::holding::{HoldingLog, WITHOUT_ROOM};
 use machine_hub::{Caller, Hub, LoggedMachine, Told};
-use std::alloc::Global;
-use std::sync::Wait;
+use std::alloc::{AllocError, Global};
 use std::sync::atomic::{AtomicU64, Ordering};
+use std::sync::{Arc, Wait};
 use std::test::Fail;
 use std::thread::{Threads, join};
 
 /// A counter from 0 with a log that holds steps.
-fn held(returned: &AtomicU64, number: u32) -> LoggedMachine<Counter, HoldingLog<'_>>
-    ensures { (result.entries ≡ []) × (result.stopped ≡ false) }
+fn held(
+    returned: &Arc<AtomicU64, Global>,
+    number: u32,
+) -> Result<LoggedMachine<Counter, HoldingLog>, AllocError>
+    ensures { IfOk result (λ machine. (machine.entries ≡ []) × (machine.stopped ≡ false)) }
 {
-    LoggedMachine::new(Counter { count: 0 }, HoldingLog { returned }, number)
+    let returned = Arc::try_clone(returned)?;
+    Ok(LoggedMachine::new(Counter { count: 0 }, HoldingLog { returned }, number))
 }
 
 /// A call at a shard, after which `returned` counts one more. Gives what `returned` was when the call had its answer.
-fn call<'r, R: Wait>(
+fn call<R: Wait>(
     rt: &R,
     alloc: Global,
-    hub: &Hub<Counter, HoldingLog<'r>>,
-    mut caller: Caller<Counter, HoldingLog<'r>>,
+    hub: &Hub<Counter, HoldingLog>,
+    mut caller: Caller<Counter, HoldingLog>,
     shard: usize,
     returned: &AtomicU64,
 ) -> u64
@@ -35,45 +39,35 @@ fn call<'r, R: Wait>(
     returned.fetch_add(1, Ordering::SeqCst)
 }
 
-/// A call at shard 0 and one at shard 1, at once. How many calls had returned before each.
-fn both_call<'r, R: Threads + Wait + Sync>(
-    rt: &R,
-    alloc: Global,
-    hub: &Hub<Counter, HoldingLog<'r>>,
-    one: Caller<Counter, HoldingLog<'r>>,
-    two: Caller<Counter, HoldingLog<'r>>,
-    returned: &AtomicU64,
-) -> (u64, u64)
-    requires shards { (0 < length hub.now) × (1 < length hub.now) }
-    requires same_hub { (slots_of one ≡ hub.now) × (slots_of two ≡ hub.now) }
-{
-    join(
-        rt,
-        move || -> u64
-            requires { (0 < length hub.now) × (slots_of one ≡ hub.now) }
-        { call(rt, alloc, hub, one, 0, returned) },
-        move || -> u64
-            requires { (1 < length hub.now) × (slots_of two ≡ hub.now) }
-        { call(rt, alloc, hub, two, 1, returned) },
-    )
-}
-
-/// The call at shard 0 is held until the one at shard 1 has returned.
+/// The call at shard 0 is held until the one at shard 1 has returned. How many calls had returned before each.
 fn two_threads<R: Threads + Wait + Sync>(rt: &R, alloc: Global) -> Result<(u64, u64), Fail> {
-    let returned = AtomicU64::new(0);
-    let machines = vec![in alloc; held(&returned, 0), held(&returned, 1)]?;
+    let returned = Arc::new(alloc, AtomicU64::new(0))?;
+    let mut machines = Vec::new(alloc);
+    machines.push(held(&returned, 0)?)?;
+    machines.push(held(&returned, 1)?)?;
     let (hub, _keeper, mut callers) = Hub::open(rt, alloc, machines, 2)?;
     let (Some(one), Some(two)) = (callers.pop(), callers.pop()) else {
         return Err("two callers".into());
     };
-    Ok(both_call(rt, alloc, &hub, one, two, &returned))
+    let shared = &hub;
+    let counter = &*returned;
+    Ok(join(
+        rt,
+        move || -> u64
+            requires { (0 < length shared.now) × (slots_of one ≡ shared.now) }
+        { call(rt, alloc, shared, one, 0, counter) },
+        move || -> u64
+            requires { (1 < length shared.now) × (slots_of two ≡ shared.now) }
+        { call(rt, alloc, shared, two, 1, counter) },
+    ))
 }
 
 /// A machine for whose step there is no room: what is told of a question before the step and after it, as numbers of
 /// two bits, the answer and whether memory was refused before.
 fn told_around_a_refusal<R: Wait>(rt: &R, alloc: Global) -> Result<(u8, u8), Fail> {
-    let returned = AtomicU64::new(0);
-    let machines = vec![in alloc; held(&returned, WITHOUT_ROOM)]?;
+    let returned = Arc::new(alloc, AtomicU64::new(0))?;
+    let mut machines = Vec::new(alloc);
+    machines.push(held(&returned, WITHOUT_ROOM)?)?;
     let (hub, _keeper, mut callers) = Hub::open(rt, alloc, machines, 1)?;
     let Some(mut me) = callers.pop() else {
         return Err("a caller".into());
@@ -96,13 +90,13 @@ fn bits(told: Told<bool>) -> u8 {
 /// Who asks is told whether memory was refused before: not at first, when the counter isn't yet 1, and then it was.
 #[test]
 fn who_asks_is_told_of_refused_memory(rt: HostRuntime) -> Result<(), Fail> {
-    assert!(rt; told_around_a_refusal(&rt, rt.alloc())? == (0, 3));
+    assert_eq!(rt; told_around_a_refusal(&rt, rt.alloc())?, (0, 3));
     Ok(())
 }
 
 /// A step on shard 0 that waits for one on shard 1 doesn't keep it from being made.
 #[test]
 fn shards_are_stepped_at_once(rt: HostRuntime) -> Result<(), Fail> {
-    assert!(rt; two_threads(&rt, rt.alloc())? == (1, 0));
+    assert_eq!(rt; two_threads(&rt, rt.alloc())?, (1, 0));
     Ok(())
 }

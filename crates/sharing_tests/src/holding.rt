@@ -18,8 +18,8 @@ pub const WITHOUT_ROOM: u32 = 9;
 
 /// Keeps nothing, and holds a step of machine 0 until a step of another has returned.
 #[derive(Drop)]
-pub struct HoldingLog<'r> {
-    pub returned: &'r AtomicU64,
+pub struct HoldingLog {
+    pub returned: Arc<AtomicU64, Global>,
 }
 
 /// Waits until a step has returned, for so many turns at most.
@@ -32,7 +32,7 @@ fn wait(returned: &AtomicU64) {
     }
 }
 
-impl<M: Machine> StepLog<M> for HoldingLog<'_> {
+impl<M: Machine> StepLog<M> for HoldingLog {
     ghost use Rattle.std.specs.Prelude.{false};
     ghost use Rattle.machine_hub.specs.Runs.{no_entries};
 
@@ -49,7 +49,7 @@ impl<M: Machine> StepLog<M> for HoldingLog<'_> {
             return Err(AllocError);
         }
         if number == 0 {
-            wait(self.returned);
+            wait(&self.returned);
         }
         Ok(())
     }

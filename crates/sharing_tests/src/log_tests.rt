@@ -3,16 +3,15 @@
 use crate::counter::Counter;
 use crate::holding::{HoldingLog, WITHOUT_ROOM};
 use machine_hub::{LoggedMachine, OptionalLog, StepLog};
+use std::sync::Arc;
 use std::sync::atomic::AtomicU64;
 use std::test::Fail;
 
 /// Where the log has no room the counter stays, and the log is stopped: later steps are made, and have no entry.
 #[test]
 fn a_step_without_room_is_not_made(rt: HostRuntime) -> Result<(), Fail> {
-    let returned = AtomicU64::new(0);
-    let log = HoldingLog {
-        returned: &returned,
-    };
+    let returned = Arc::new(rt.alloc(), AtomicU64::new(0))?;
+    let log = HoldingLog { returned };
     let mut machine = LoggedMachine::new(Counter { count: 7 }, log, WITHOUT_ROOM);
     assert!(rt; machine.apply(rt.alloc(), 1).is_err());
     assert!(rt; machine.stopped());
