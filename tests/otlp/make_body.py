@@ -6,7 +6,7 @@ Run by hand, with Debian's protobuf-compiler and python3-protobuf (README.md nam
 
     /usr/bin/python3 tests/otlp/make_body.py SHAPE COUNT PATH
 
-    /usr/bin/python3 tests/otlp/make_body.py spans 240 crates/codec_bench/data/request.pb
+    /usr/bin/python3 tests/otlp/make_body.py spans 240 crates/collector_bench/data/request.pb
 
 Nothing here was made by this project's reader or writer: ordinary spans are written by Protocol Buffers' own Python
 library, whose text is canonical where no field is unknown. The other shapes are composed of fields by hand, and the

@@ -1,2 +1,0 @@
-pub mod Task
-pub mod Status
