@@ -127,8 +127,8 @@ fn put_inside(
 }
 
 /// Appends what a span's field is without its default, or without what need not be there of the message that it holds,
-/// behind fields of numbers up to `most`. Tells whether it did: a default may take back what came before it, and behind a
-/// greater number no message is canonical.
+/// behind fields of numbers up to `most`. Tells whether it did: a default may take back what came before it, and behind
+/// a greater number no message is canonical.
 #[inline(always)]
 fn put_bare(
     alloc: Global,
