@@ -421,8 +421,30 @@ fn put_nested(alloc: Global, copy: &mut Vec<u8>, text: &[u8], room: u32) -> Resu
     Ok(true)
 }
 
-/// The same. Where it tells that it didn't, nothing is appended: the text is put apart first, where it takes its bytes
-/// once more.
+/// The same, where these are the attribute's key and its value.
+fn put_pair_nested(
+    alloc: Global,
+    copy: &mut Vec<u8>,
+    text: &[u8],
+    pair: Pair<'_>,
+    room: u32,
+) -> Result<bool, AllocError>
+    requires some { 0 < room }
+    requires is { IsPair (101 - room) text.now pair.key.now pair.value.now pair.has_value
+        pair.unknown }
+    ensures { IfOk result (λ whole. whole ≡ true
+        → FieldAlike key_value_step no_key_value room 9 text.now copy.old.items copy.new.items) }
+{
+    let start = copy.len();
+    if !put_split(alloc, copy, text, pair, pair.value, room, false)? {
+        return Ok(false);
+    }
+    wrap_in_field(copy, start, 9)?;
+    Ok(true)
+}
+
+/// What `put_nested` appends. Where it tells that it didn't, nothing is appended: the text is put apart first, where it
+/// takes its bytes once more.
 pub fn put_alone(
     alloc: Global,
     copy: &mut Vec<u8>,
@@ -469,7 +491,8 @@ pub fn put_parts(
     parts: Parts<'_>,
     room: u32,
 ) -> Result<bool, AllocError>
-    ensures { HasParts room text.now parts.entry → IfOk result (λ whole. whole ≡ true
+    requires parts { HasParts room text.now parts }
+    ensures { IfOk result (λ whole. whole ≡ true
         → FieldAlike key_value_step no_key_value room 9 text.now copy.old.items copy.new.items) }
 {
     if room == 0 {
@@ -477,7 +500,7 @@ pub fn put_parts(
     }
     let pair = parts.pair;
     let Some(field) = plain_member(parts, room - 1) else {
-        let whole = put_nested(alloc, copy, text, room)?;
+        let whole = put_pair_nested(alloc, copy, text, pair, room)?;
         return Ok(whole);
     };
     let unknown = parts.chosen.unknown;
