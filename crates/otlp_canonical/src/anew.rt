@@ -300,6 +300,22 @@ fn as_written(field: Field<'_>) -> Field<'_>
     }
 }
 
+/// The string that is all of the value, with a length of one byte, as most values are.
+#[inline(always)]
+fn short_string(text: &[u8]) -> Option<Field<'_>>
+    ensures { (room d : ℕ) → IfSome result (λ field. IsValue room d text.now
+        (Some (entry field)) 0) }
+{
+    let (string, end) = short_field(text, 1)?;
+    if !end.is_empty() {
+        return None;
+    }
+    Some(Field {
+        number: 1,
+        value: Value::Bytes(string),
+    })
+}
+
 /// The member of a value that counts, as it is written, if all before it give way. There is room for so many levels,
 /// the value's own among them.
 #[inline(always)]
@@ -332,6 +348,21 @@ fn split_value(text: &[u8], room: u32) -> Option<Chosen<'_>>
     Some(Chosen { member, unknown })
 }
 
+/// The same. Most values are short strings, and take no walk.
+#[inline(always)]
+fn value_in(text: &[u8], room: u32) -> Option<Chosen<'_>>
+    ensures { IfSome result (λ chosen. IsValue (room - 1) (101 - room) text.now
+        (option_map entry chosen.member) chosen.unknown) }
+{
+    if let Some(field) = short_string(text) {
+        return Some(Chosen {
+            member: Some(field),
+            unknown: 0,
+        });
+    }
+    split_value(text, room)
+}
+
 /// An attribute with one value at most, or one that is read as all of its values, and the member of that which counts.
 #[derive(Clone, Copy)]
 pub struct Parts<'a> {
@@ -352,7 +383,7 @@ pub fn parts_of(text: &[u8], room: u32) -> Option<Parts<'_>>
     }
     let depth = 101u32.saturating_sub(room);
     let pair = pair_in(text, depth)?;
-    let chosen = split_value(pair.value, room - 1)?;
+    let chosen = value_in(pair.value, room - 1)?;
     Some(Parts { pair, chosen })
 }
 

@@ -98,6 +98,13 @@ pub fn any(text: &[u8], room: u32) -> Option<()>
         return None;
     }
     let rest = kind(text, room - 1)?;
+    // Behind a member there's another.
+    if matches!(
+        rest.first(),
+        Some(0x0a | 0x10 | 0x18 | 0x21 | 0x2a | 0x32 | 0x3a)
+    ) {
+        return None;
+    }
     unknown::<AnyValue>(rest, room - 1)?;
     Some(())
 }
@@ -273,6 +280,10 @@ fn any_pair(text: &[u8], room: u32) -> Option<()>
         return Some(());
     }
     let (value, rest) = bytes_field(key, 2)?;
+    // Most that isn't canonical ends here.
+    if matches!(rest.first(), Some(0x0a | 0x12)) {
+        return None;
+    }
     any(value, room - 1)?;
     unknown::<KeyValue>(rest, room - 1)?;
     Some(())
