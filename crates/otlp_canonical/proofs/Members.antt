@@ -29,8 +29,8 @@ use Rattle.otlp_canonical.proofs.Respelled.{any_spelled, ends, next_before, one_
 
 -- ---- a member that gives way to any that follows
 
--- What two readings of a field give, if the value knows it: the one behind a member, the other by itself. The first is the
--- second with what was kept before it.
+-- What two readings of a field give that a value knows, the one behind a member, the other by itself: the first is the
+-- second with what was kept before.
 record Follows (kept : List ℕ) (o p : Option (Result AnyValueData ReadFault)) : Type 0 where
   follows : (j k : Result AnyValueData ReadFault) → is_some p ≡ true → unwrap_or o j ≡ (unwrap_or p k >>= λ v. Ok (keep_any v kept))
 
