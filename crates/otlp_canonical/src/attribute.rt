@@ -83,7 +83,7 @@ fn has_long_value(text: &[u8]) -> bool {
 }
 
 /// Whether something else than a value stands behind a key of so many bytes, with a length of one byte, or another
-/// value or a key behind its value; or that value holds more. A value with a longer length than most isn't looked at.
+/// value or a key behind its value; or that value holds more. Behind a length of more than two bytes it isn't asked.
 #[inline(always)]
 fn goes_on(text: &[u8], key_size: u8, room: u32) -> bool {
     let Some((_key, behind)) = split(text, usize::from(key_size) + 2) else {
@@ -175,9 +175,9 @@ fn is_behind_value(text: &[u8]) -> bool {
 /// vain in a longer one is put so once.
 const LONGEST_RESPELLED: usize = 16_384;
 
-/// Whether the attribute of a span of so many bytes is respelled while the span is looked for defaults. In a longer one
-/// than most those are whose own length is longer than it has to be, as they are put in any case. There is room for so
-/// many levels, the attribute's own among them.
+/// Whether the attribute of a span of so many bytes is respelled while the span is looked for defaults. In one of more
+/// bytes only those are whose own length is longer than it has to be: they don't stay as they are in any case. There is
+/// room for so many levels, the attribute's own among them.
 #[inline(always)]
 pub fn is_respelled(text: &[u8], has_long_length: bool, span: usize, room: u32) -> bool {
     if span <= LONGEST_RESPELLED {
