@@ -187,30 +187,27 @@ pub fn is_respelled(text: &[u8], has_long_length: bool, span: usize, room: u32) 
     }
 }
 
-/// Whether an attribute with a length of one byte stands at the front and is respelled, in a span of so many bytes.
-/// There is room for so many levels, the attribute's own among them.
+/// The attribute at the front, if it has a length of one byte and isn't respelled, and the rest. The span has so many
+/// bytes. There is room for so many levels, the attribute's own among them. It is noted of such an attribute whether it
+/// is respelled.
 #[inline(always)]
-pub fn is_next_respelled(text: &[u8], span: usize, room: u32) -> bool {
-    match short_field(text, 9) {
-        Some((attribute, _rest)) => {
-            !begins_plainly(attribute) && is_respelled(attribute, false, span, room)
-        }
-        None => false,
-    }
-}
-
-/// The attribute at the front, if it has a length of one byte and isn't respelled, and the rest.
-#[inline(always)]
-pub fn short_attribute(text: &[u8], respelled: bool) -> Option<(&[u8], &[u8])>
+pub fn short_attribute<'a>(
+    text: &'a [u8],
+    span: usize,
+    room: u32,
+    respelled: &mut bool,
+) -> Option<(&'a [u8], &'a [u8])>
     ensures parts { IfSome result (λ x. text.now ≡ bytes_field 9 x.0.now ++ x.1.now) }
     ensures shorter { IfSome result (λ x. length x.1.now < length text.now) }
     ensures short { IfSome result (λ x. length x.0.now < 128) }
 {
-    if respelled {
-        return None;
-    }
     let (attribute, rest) = short_field(text, 9)?;
-    Some((attribute, rest))
+    if begins_plainly(attribute) || !is_respelled(attribute, false, span, room) {
+        Some((attribute, rest))
+    } else {
+        *respelled = true;
+        None
+    }
 }
 
 /// Whether the value is an array or a list.

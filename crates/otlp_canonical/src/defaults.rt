@@ -12,9 +12,7 @@ ghost use Rattle.otlp_trace.specs.Defaults.{no_span};
 ghost use Rattle.otlp_read.specs.Value.{span_step};
 ghost use Rattle.otlp_read.specs.Walk.{read_with};
 
-use crate::attribute::{
-    field_size, is_next_respelled, is_respelled, put_span_attribute, short_attribute,
-};
+use crate::attribute::{field_size, is_respelled, put_span_attribute, short_attribute};
 use crate::inner::{put_message, spare_size};
 use crate::rewritten::rewritten_or_vain;
 use crate::text::is_span_text;
@@ -203,9 +201,14 @@ fn put_fields<'a>(
     let mut left = text;
     let mut most = 0u32;
     'fields: while !left.is_empty() {
-        let respelled = is_next_respelled(left, text.len(), room - 1);
+        let mut respelled = false;
         // Most attributes have lengths of one byte, and stay.
-        if let Some((_attribute, rest)) = short_attribute(left, respelled) {
+        if let Some((_attribute, rest)) = short_attribute(
+            left,
+            text.len(),
+            room - 1,
+            &mut respelled,
+        ) {
             most = most.max(9);
             left = rest;
             continue;
