@@ -165,6 +165,17 @@ fn is_moved(field: Field<'_>, moves_flags: bool) -> bool
     }
 }
 
+/// Appends a run of fields that stay, mostly none between two that don't.
+#[inline(always)]
+fn put_between(copy: &mut Vec<u8>, run: &[u8]) -> Result<(), AllocError>
+    ensures { IfOk result (λ u. copy.new.items ≡ copy.old.items ++ run.now) }
+{
+    if run.is_empty() {
+        return Ok(());
+    }
+    copy.extend_from_slice(run)
+}
+
 /// What isn't copied of a text whose fields have gone by.
 #[derive(Clone, Copy)]
 struct Uncopied<'a> {
@@ -227,7 +238,7 @@ fn put_fields<'a>(
             left = rest;
             continue;
         }
-        copy.extend_from_slice(&from[..from.len() - left.len()])?;
+        put_between(copy, &from[..from.len() - left.len()])?;
         if moves && flags.is_empty() {
             flags = &left[..left.len() - rest.len()];
         } else if !moves
