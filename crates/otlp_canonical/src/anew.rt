@@ -300,6 +300,22 @@ fn as_written(field: Field<'_>) -> Field<'_>
     }
 }
 
+/// The string that is all of the value, with a length of one byte, as most values are.
+#[inline(always)]
+fn short_string(text: &[u8]) -> Option<Field<'_>>
+    ensures { (room d : ℕ) → IfSome result (λ field. IsValue room d text.now
+        (Some (entry field)) 0) }
+{
+    let (string, end) = short_field(text, 1)?;
+    if !end.is_empty() {
+        return None;
+    }
+    Some(Field {
+        number: 1,
+        value: Value::Bytes(string),
+    })
+}
+
 /// The member of a value that counts, as it is written, if all before it give way. There is room for so many levels,
 /// the value's own among them.
 #[inline(always)]
@@ -332,6 +348,21 @@ fn split_value(text: &[u8], room: u32) -> Option<Chosen<'_>>
     Some(Chosen { member, unknown })
 }
 
+/// The same. Most values are short strings, and take no walk.
+#[inline(always)]
+fn value_in(text: &[u8], room: u32) -> Option<Chosen<'_>>
+    ensures { IfSome result (λ chosen. IsValue (room - 1) (101 - room) text.now
+        (option_map entry chosen.member) chosen.unknown) }
+{
+    if let Some(field) = short_string(text) {
+        return Some(Chosen {
+            member: Some(field),
+            unknown: 0,
+        });
+    }
+    split_value(text, room)
+}
+
 /// An attribute with one value at most, or one that is read as all of its values, and the member of that which counts.
 #[derive(Clone, Copy)]
 pub struct Parts<'a> {
@@ -352,7 +383,7 @@ pub fn parts_of(text: &[u8], room: u32) -> Option<Parts<'_>>
     }
     let depth = 101u32.saturating_sub(room);
     let pair = pair_in(text, depth)?;
-    let chosen = split_value(pair.value, room - 1)?;
+    let chosen = value_in(pair.value, room - 1)?;
     Some(Parts { pair, chosen })
 }
 
@@ -421,8 +452,30 @@ fn put_nested(alloc: Global, copy: &mut Vec<u8>, text: &[u8], room: u32) -> Resu
     Ok(true)
 }
 
-/// The same. Where it tells that it didn't, nothing is appended: the text is put apart first, where it takes its bytes
-/// once more.
+/// The same, where these are the attribute's key and its value.
+fn put_pair_nested(
+    alloc: Global,
+    copy: &mut Vec<u8>,
+    text: &[u8],
+    pair: Pair<'_>,
+    room: u32,
+) -> Result<bool, AllocError>
+    requires some { 0 < room }
+    requires is { IsPair (101 - room) text.now pair.key.now pair.value.now pair.has_value
+        pair.unknown }
+    ensures { IfOk result (λ whole. whole ≡ true
+        → FieldAlike key_value_step no_key_value room 9 text.now copy.old.items copy.new.items) }
+{
+    let start = copy.len();
+    if !put_split(alloc, copy, text, pair, pair.value, room, false)? {
+        return Ok(false);
+    }
+    wrap_in_field(copy, start, 9)?;
+    Ok(true)
+}
+
+/// What `put_nested` appends. Where it tells that it didn't, nothing is appended: the text is put apart first, where it
+/// takes its bytes once more.
 pub fn put_alone(
     alloc: Global,
     copy: &mut Vec<u8>,
@@ -469,7 +522,8 @@ pub fn put_parts(
     parts: Parts<'_>,
     room: u32,
 ) -> Result<bool, AllocError>
-    ensures { HasParts room text.now parts.entry → IfOk result (λ whole. whole ≡ true
+    requires parts { HasParts room text.now parts }
+    ensures { IfOk result (λ whole. whole ≡ true
         → FieldAlike key_value_step no_key_value room 9 text.now copy.old.items copy.new.items) }
 {
     if room == 0 {
@@ -477,7 +531,7 @@ pub fn put_parts(
     }
     let pair = parts.pair;
     let Some(field) = plain_member(parts, room - 1) else {
-        let whole = put_nested(alloc, copy, text, room)?;
+        let whole = put_pair_nested(alloc, copy, text, pair, room)?;
         return Ok(whole);
     };
     let unknown = parts.chosen.unknown;

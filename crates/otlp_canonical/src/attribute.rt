@@ -70,13 +70,28 @@ fn holds_more(value: &[u8], room: u32) -> bool {
     }
 }
 
+/// Whether a value stands at the front whose length has more than two bytes, or a second one of 0: one that is longer
+/// than it has to be, as a rule.
+#[inline(always)]
+fn has_long_value(text: &[u8]) -> bool {
+    match text.split_first_chunk::<3>() {
+        Some((front, _rest)) => {
+            front[0] == 0x12 && front[1] >= 0x80 && !matches!(front[2], 1..=0x7f)
+        }
+        None => false,
+    }
+}
+
 /// Whether something else than a value stands behind a key of so many bytes, with a length of one byte, or another
-/// value or a key behind its value; or that value holds more.
+/// value or a key behind its value; or that value holds more. Behind a length of more than two bytes it isn't asked.
 #[inline(always)]
 fn goes_on(text: &[u8], key_size: u8, room: u32) -> bool {
     let Some((_key, behind)) = split(text, usize::from(key_size) + 2) else {
         return false;
     };
+    if has_long_value(behind) {
+        return false;
+    }
     let Some((value, others)) = bytes_field(behind, 2) else {
         return !matches!(behind.first(), None | Some(0x12));
     };
@@ -160,25 +175,37 @@ fn is_behind_value(text: &[u8]) -> bool {
 /// vain in a longer one is put so once.
 const LONGEST_RESPELLED: usize = 16_384;
 
-/// Whether the attribute of a span of so many bytes is respelled while the span is looked for defaults. There is room
-/// for so many levels, the attribute's own among them.
+/// Whether the attribute of a span of so many bytes is respelled while the span is looked for defaults. In one of more
+/// bytes only those are whose own length is longer than it has to be: they don't stay as they are in any case. There is
+/// room for so many levels, the attribute's own among them.
 #[inline(always)]
-pub fn is_respelled(text: &[u8], span: usize, room: u32) -> bool {
-    span <= LONGEST_RESPELLED && begins_otherwise(text, room.saturating_sub(1))
+pub fn is_respelled(text: &[u8], has_long_length: bool, span: usize, room: u32) -> bool {
+    if span <= LONGEST_RESPELLED {
+        begins_otherwise(text, room.saturating_sub(1))
+    } else {
+        has_long_length && begins_otherwise(text, 0)
+    }
 }
 
 /// The attribute at the front, if it has a length of one byte and isn't respelled, and the rest. The span has so many
-/// bytes. There is room for so many levels, the attribute's own among them.
+/// bytes. There is room for so many levels, the attribute's own among them. It is noted of such an attribute whether it
+/// is respelled.
 #[inline(always)]
-pub fn short_attribute(text: &[u8], span: usize, room: u32) -> Option<(&[u8], &[u8])>
+pub fn short_attribute<'a>(
+    text: &'a [u8],
+    span: usize,
+    room: u32,
+    respelled: &mut bool,
+) -> Option<(&'a [u8], &'a [u8])>
     ensures parts { IfSome result (λ x. text.now ≡ bytes_field 9 x.0.now ++ x.1.now) }
     ensures shorter { IfSome result (λ x. length x.1.now < length text.now) }
     ensures short { IfSome result (λ x. length x.0.now < 128) }
 {
     let (attribute, rest) = short_field(text, 9)?;
-    if begins_plainly(attribute) || !is_respelled(attribute, span, room) {
+    if begins_plainly(attribute) || !is_respelled(attribute, false, span, room) {
         Some((attribute, rest))
     } else {
+        *respelled = true;
         None
     }
 }
@@ -264,8 +291,8 @@ pub fn put_attribute(
     Ok(whole)
 }
 
-/// Appends a span's attribute: anew where it is respelled or can't be canonical otherwise, or where its value holds
-/// others behind a long length; else its length and its value's as short as they can be. Tells whether it did.
+/// Appends a span's attribute: anew where it is respelled, or where its value holds others behind a long length; else
+/// its length and its value's as short as they can be. Tells whether it did.
 pub fn put_span_attribute(
     alloc: Global,
     copy: &mut Vec<u8>,
@@ -279,7 +306,7 @@ pub fn put_span_attribute(
     if room == 0 {
         return Ok(false);
     }
-    if respelled || begins_otherwise(text, 0) {
+    if respelled {
         let whole = put_respelled(alloc, copy, text, room)?;
         return Ok(whole);
     }

@@ -37,37 +37,73 @@ pub fn is_default(field: Field<'_>) -> bool
     }
 }
 
-/// How many bytes of the message in a span's field, which takes so many, need not be there: defaults that are written
-/// out, and lengths longer than they have to be. Of an attribute none are counted, and 1 where it is respelled. None
-/// where the field stays as it is.
+/// What need not be there of a span's field that holds a message.
+#[derive(Clone, Copy)]
+enum Spare {
+    /// The field is an attribute that is put anew.
+    Respelled,
+
+    /// So many bytes of the message: defaults that are written out, and lengths longer than they have to be; and what
+    /// the field's own length need not have.
+    Bytes(usize),
+}
+
+impl Spare {
+    /// Whether the field is an attribute that is put anew.
+    #[inline(always)]
+    fn is_respelled(self) -> bool {
+        matches!(self, Spare::Respelled)
+    }
+
+    /// How many bytes need not be there of a message that isn't put anew.
+    #[inline(always)]
+    fn bytes(self) -> usize {
+        match self {
+            Spare::Respelled => 0,
+            Spare::Bytes(bytes) => bytes,
+        }
+    }
+}
+
+/// What need not be there of a span's field, which takes so many bytes, in a span of so many; none where the field
+/// stays as it is. An attribute may be known to be respelled.
 #[inline(always)]
-fn spare_inside(field: Field<'_>, size: usize, room: u32, span: usize) -> Option<usize> {
+fn spare_inside(
+    field: Field<'_>,
+    size: usize,
+    room: u32,
+    span: usize,
+    respelled: bool,
+) -> Option<Spare> {
     let Value::Bytes(text) = field.value else {
         return None;
     };
+    let is_long = size > field_size(text.len());
     let spare = match field.number {
-        9 if is_respelled(text, span, room) => return Some(1),
+        9 if respelled || is_respelled(text, is_long, span, room) => {
+            return Some(Spare::Respelled);
+        }
         9 => 0,
         11 => spare_size::<Event>(text, room),
         13 => spare_size::<Link>(text, room),
         15 => spare_size::<Status>(text, room),
         _ => return None,
     };
-    if spare > 0 || size > field_size(text.len()) {
-        Some(spare)
+    if spare > 0 || is_long {
+        Some(Spare::Bytes(spare))
     } else {
         None
     }
 }
 
-/// Appends a span's field without so many bytes of its message that need not be there, behind fields of numbers up to
-/// `most`. Tells whether it did: a status that stands again is merged with the one that stands.
+/// Appends a span's field without what need not be there of its message, behind fields of numbers up to `most`. Tells
+/// whether it did: a status that stands again is merged with the one that stands.
 #[inline(always)]
 fn put_inside(
     alloc: Global,
     copy: &mut Vec<u8>,
     field: Field<'_>,
-    spare: usize,
+    spare: Spare,
     most: u32,
     room: u32,
 ) -> Result<bool, AllocError>
@@ -79,24 +115,24 @@ fn put_inside(
         return Ok(false);
     };
     let whole = match field.number {
-        9 => put_span_attribute(alloc, copy, text, spare > 0, room)?,
-        11 => put_message::<Event>(copy, 11, text, spare, room)?,
-        13 => put_message::<Link>(copy, 13, text, spare, room)?,
-        15 if most < 15 => put_message::<Status>(copy, 15, text, spare, room)?,
+        9 => put_span_attribute(alloc, copy, text, spare.is_respelled(), room)?,
+        11 => put_message::<Event>(copy, 11, text, spare.bytes(), room)?,
+        13 => put_message::<Link>(copy, 13, text, spare.bytes(), room)?,
+        15 if most < 15 => put_message::<Status>(copy, 15, text, spare.bytes(), room)?,
         _ => false,
     };
     Ok(whole)
 }
 
-/// Appends what a span's field is without its default, or without so many bytes of the message that it holds, behind
-/// fields of numbers up to `most`. Tells whether it did: a default may take back what came before it, and behind a
-/// greater number no message is canonical.
+/// Appends what a span's field is without its default, or without what need not be there of the message that it holds,
+/// behind fields of numbers up to `most`. Tells whether it did: a default may take back what came before it, and behind
+/// a greater number no message is canonical.
 #[inline(always)]
 fn put_bare(
     alloc: Global,
     copy: &mut Vec<u8>,
     field: Field<'_>,
-    spare: usize,
+    spare: Spare,
     most: u32,
     room: u32,
 ) -> Result<bool, AllocError>
@@ -127,6 +163,17 @@ fn is_moved(field: Field<'_>, moves_flags: bool) -> bool
         Value::Four(_) => field.number == FLAGS && moves_flags,
         _ => false,
     }
+}
+
+/// Appends a run of fields that stay, mostly none between two that don't.
+#[inline(always)]
+fn put_between(copy: &mut Vec<u8>, run: &[u8]) -> Result<(), AllocError>
+    ensures { IfOk result (λ u. copy.new.items ≡ copy.old.items ++ run.now) }
+{
+    if run.is_empty() {
+        return Ok(());
+    }
+    copy.extend_from_slice(run)
 }
 
 /// What isn't copied of a text whose fields have gone by.
@@ -165,8 +212,14 @@ fn put_fields<'a>(
     let mut left = text;
     let mut most = 0u32;
     'fields: while !left.is_empty() {
+        let mut respelled = false;
         // Most attributes have lengths of one byte, and stay.
-        if let Some((_attribute, rest)) = short_attribute(left, text.len(), room - 1) {
+        if let Some((_attribute, rest)) = short_attribute(
+            left,
+            text.len(),
+            room - 1,
+            &mut respelled,
+        ) {
             most = most.max(9);
             left = rest;
             continue;
@@ -174,7 +227,8 @@ fn put_fields<'a>(
         let Ok(Some((field, rest))) = next_field(left, depth) else {
             return Ok(None);
         };
-        let spare = spare_inside(field, left.len() - rest.len(), room - 1, text.len());
+        let size = left.len() - rest.len();
+        let spare = spare_inside(field, size, room - 1, text.len(), respelled);
         let moves = is_moved(field, moves_flags);
         if spare.is_none() && !is_default(field) && !moves {
             if is_late(field, most) {
@@ -184,10 +238,19 @@ fn put_fields<'a>(
             left = rest;
             continue;
         }
-        copy.extend_from_slice(&from[..from.len() - left.len()])?;
+        put_between(copy, &from[..from.len() - left.len()])?;
         if moves && flags.is_empty() {
             flags = &left[..left.len() - rest.len()];
-        } else if !moves && put_bare(alloc, copy, field, spare.unwrap_or(0), most, room - 1)? {
+        } else if !moves
+            && put_bare(
+                alloc,
+                copy,
+                field,
+                spare.unwrap_or(Spare::Bytes(0)),
+                most,
+                room - 1,
+            )?
+        {
             most = most.max(field.number);
         } else {
             return Ok(None);

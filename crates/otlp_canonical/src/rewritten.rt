@@ -167,7 +167,7 @@ fn put_placed<M: Placed>(
         copy.new.items) }
     ensures not { IfOk result (λ whole. whole ≡ false → copy.new.items ≡ copy.old.items) }
 {
-    // Only such a number has a tag of one byte, which is what `put_bytes_field` writes. No caller passes another.
+    // `put_bytes_field` wants a number from 1 to 2^29 - 1. No caller passes one above 15.
     if number == 0 || number > 15 {
         return Ok(false);
     }

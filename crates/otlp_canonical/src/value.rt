@@ -7,7 +7,7 @@ ghost use Rattle.otlp_trace.specs.Text.{any_text, kind_text, array_text, list_te
 ghost use Rattle.otlp_canonical.specs.Parts.{Whole, Front};
 ghost use Rattle.otlp_canonical.specs.Sound.{SoundAny, SoundKind, SoundArray, SoundList, SoundKeyValue};
 
-use crate::field::{begins, bytes_field, is_utf8, some_string};
+use crate::field::{begins, bytes_field, is_utf8, short_field, some_string};
 use crate::number::{behind, shortest, split};
 use crate::unknown::unknown;
 use otlp_trace::{AnyValue, ArrayValue, KeyValue, KeyValueList};
@@ -98,6 +98,13 @@ pub fn any(text: &[u8], room: u32) -> Option<()>
         return None;
     }
     let rest = kind(text, room - 1)?;
+    // Behind a member there's another.
+    if matches!(
+        rest.first(),
+        Some(0x0a | 0x10 | 0x18 | 0x21 | 0x2a | 0x32 | 0x3a)
+    ) {
+        return None;
+    }
     unknown::<AnyValue>(rest, room - 1)?;
     Some(())
 }
@@ -243,6 +250,22 @@ fn plain_pair(text: &[u8], room: u32) -> Option<()>
     }
 }
 
+/// Whether the text may be what `plain_pair` goes over and `short_pair` doesn't: where its lengths have one byte each,
+/// it is that only with a string that has nothing behind it.
+#[inline(always)]
+fn may_be_plain(text: &[u8]) -> bool {
+    let Some((_key, behind)) = short_field(text, 1) else {
+        return true;
+    };
+    let Some((value, end)) = short_field(behind, 2) else {
+        return true;
+    };
+    match short_field(value, 1) {
+        Some((_string, more)) => end.is_empty() && more.is_empty(),
+        None => false,
+    }
+}
+
 /// Goes over a key with or without a value.
 #[cycle(any)]
 fn any_pair(text: &[u8], room: u32) -> Option<()>
@@ -257,6 +280,10 @@ fn any_pair(text: &[u8], room: u32) -> Option<()>
         return Some(());
     }
     let (value, rest) = bytes_field(key, 2)?;
+    // Most that isn't canonical ends here.
+    if matches!(rest.first(), Some(0x0a | 0x12)) {
+        return None;
+    }
     any(value, room - 1)?;
     unknown::<KeyValue>(rest, room - 1)?;
     Some(())
@@ -271,7 +298,7 @@ pub fn key_value(text: &[u8], room: u32) -> Option<()>
     if short_pair(text, room).is_some() {
         return Some(());
     }
-    if plain_pair(text, room).is_some() {
+    if may_be_plain(text) && plain_pair(text, room).is_some() {
         return Some(());
     }
     any_pair(text, room)

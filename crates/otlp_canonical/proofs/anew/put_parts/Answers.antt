@@ -8,8 +8,12 @@ use Rattle.otlp_canonical.specs.Inner.{ReadAlike}
 use Rattle.otlp_canonical.proofs.Respelled.{plain_alike}
 use Rattle.otlp_canonical.proofs.anew.put_parts.Goals as goal
 
+pub put_pair_nested-requires : goal.put_pair_nested-requires
+put_pair_nested-requires c = record { some = c.requires.parts.some; is = c.requires.parts.pair }
+
 pub returns : goal.returns
-returns c parts whole =
+returns c whole =
+    let parts = c.requires.parts in
     let at : c.saturating_sub-depth.result ≡ 101 - c.args.room = search rules in
     let key = c.args.parts.pair.key.now in
     let value = c.args.parts.pair.value.now in

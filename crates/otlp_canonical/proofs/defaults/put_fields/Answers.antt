@@ -56,8 +56,8 @@ fields-preserved-then-is_empty c =
     let there : next_at (101 - c.args.room) c.fields.left.now ≡ Ok (Some (field, rest)) = subst (λ (n : ℕ). next_at n c.fields.left.now ≡ Ok (Some (field, rest))) at found in
     let moved : (place_of field == 16 && c.args.moves_flags) ≡ true = search rules in
     let none : length c.fields.flags.now ≡ 0 = grind (arith, nat_tests) in
-    flags_moved c.args.room c.args.text.now c.fields.copy.items c.extend_from_slice.new.self.items c.fields.from.now c.fields.left.now rest c.fields.flags.now _
-    c.fields.most c.args.moves_flags field there moved none c.in_ok-extend_from_slice.ensures.items refl c.fields.invariant
+    flags_moved c.args.room c.args.text.now c.fields.copy.items c.put_between.new.copy.items c.fields.from.now c.fields.left.now rest c.fields.flags.now _
+    c.fields.most c.args.moves_flags field there moved none c.in_ok-put_between.ensures refl c.fields.invariant
 
 pub fields-preserved : goal.fields-preserved
 fields-preserved c =
@@ -69,10 +69,10 @@ fields-preserved c =
     let found : next_at d c.fields.left.now ≡ Ok (Some (field, rest)) = search rules in
     let there : next_at (101 - c.args.room) c.fields.left.now ≡ Ok (Some (field, rest)) = subst (λ (n : ℕ). next_at n c.fields.left.now ≡ Ok (Some (field, rest))) at found in
     let other : (place_of field == 16 && c.args.moves_flags) ≡ false = search rules in
-    let put : PutFor span_step DefaultsAbove (c.args.room - 1) (101 - c.args.room) c.fields.most field c.extend_from_slice.new.self.items c.put_bare.new.copy.items = search rules in
+    let put : PutFor span_step DefaultsAbove (c.args.room - 1) (101 - c.args.room) c.fields.most field c.put_between.new.copy.items c.put_bare.new.copy.items = search rules in
     let going = going_put span_step no_span holds_default DefaultsAbove span_laws c.args.room m.meant []
-    c.fields.copy.items c.extend_from_slice.new.self.items c.put_bare.new.copy.items c.fields.from.now c.fields.left.now rest c.fields.most c.max-most-then-branch.result field put.put
-    c.in_ok-extend_from_slice.ensures.items put.copied put.alike (omega arith) (omega arith) there m.going in
+    c.fields.copy.items c.put_between.new.copy.items c.put_bare.new.copy.items c.fields.from.now c.fields.left.now rest c.fields.most c.max-most-then-branch.result field put.put
+    c.in_ok-put_between.ensures put.copied put.alike (omega arith) (omega arith) there m.going in
     moved_on c.args.room c.args.text.now c.fields.copy.items c.put_bare.new.copy.items c.fields.from.now rest c.fields.left.now rest c.fields.flags.now
     c.fields.most c.max-most-then-branch.result c.args.moves_flags field there other m going
 

@@ -1,7 +1,7 @@
 use Rattle.std.proofs.Common.{rules, arith, ◌≡◌, ◌==◌, ◌-◌, ◌<◌, ◌^◌, List, ℕ, length, refl, subst}
 use Rattle.otlp_read.specs.AnyValue.{no_key_value, key_value_step}
 use Rattle.otlp_read.specs.Value.{span_step}
-use Rattle.otlp_canonical.specs.Anew.{HasParts, WrittenAnew}
+use Rattle.otlp_canonical.specs.Anew.{WrittenAnew}
 use Rattle.otlp_canonical.specs.Defaults.{DefaultsAbove}
 use Rattle.otlp_canonical.specs.Inner.{FieldAlike}
 use Rattle.otlp_canonical.proofs.Attributes.{span_attributes}
@@ -11,8 +11,7 @@ use Rattle.otlp_canonical.proofs.rewritten.put_attribute.Goals as goal
 
 pub returns-in-Some : goal.returns-in-Some
 returns-in-Some c d most whole =
-    let found : HasParts (c.args.room - 1) c.args.text.now c.in-Some.parts = search rules in
-    attribute_put span_step DefaultsAbove (λ (n : ℕ). n == 9) span_attributes (c.args.room - 1) d most 9 c.args.text.now c.args.copy.now.items c.put_parts.new.copy.items refl (c.in_ok-whole.ensures found whole)
+    attribute_put span_step DefaultsAbove (λ (n : ℕ). n == 9) span_attributes (c.args.room - 1) d most 9 c.args.text.now c.args.copy.now.items c.put_parts.new.copy.items refl (c.in_ok-whole.ensures whole)
 
 pub returns-then-branch : goal.returns-then-branch
 returns-then-branch c d most whole =
