@@ -7,7 +7,7 @@ ghost use Rattle.collector_bench.specs.Task.{TaskData, Asks, IsCount, count_of, 
 const MOST_POLICIES: u32 = 64;
 
 /// What the program is to do.
-#[derive(Clone, Copy, Debug)]
+#[derive(Clone, Copy)]
 pub enum Task<'a> {
     /// What is stored is checked once.
     CheckStored,
