@@ -20,9 +20,7 @@ use thiserror::Error;
 #[derive(Debug, Drop, Error)]
 pub enum BenchFault {
     /// The arguments ask for nothing that the program does.
-    #[error(
-        "usage: collector_bench [codec FILE ROUNDS | prepare FILE ROUNDS POLICIES | edge FILE ROUNDS]"
-    )]
+    #[error("usage: collector_bench [codec FILE ROUNDS | prepare FILE ROUNDS POLICIES | edge FILE ROUNDS]")]
     Usage,
     /// The body has no value.
     #[error("the body is faulty: {0}")]

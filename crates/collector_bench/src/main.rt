@@ -51,32 +51,32 @@ fn run<R: Threads + Sync + Env + Files + Clock + Print + AllocGlobal>(
     for arg in env::args(rt)?.skip(1) {
         args.push(arg)?;
     }
-    match asked_task(args.as_slice()) {
-        Some(Task::CheckStored) => check_stored(rt),
-        Some(Task::Codec { path, rounds }) => {
+    let Some(task) = asked_task(args.as_slice()) else {
+        return Err(BenchFault::Usage);
+    };
+    match task {
+        Task::CheckStored => check_stored(rt),
+        Task::Codec { path, rounds } => {
             let body = fs::read(rt, path)?;
             measure_codec(rt, body.as_slice(), rounds)
         }
-        Some(Task::Prepare {
+        Task::Prepare {
             path,
             rounds,
             policies,
-        }) => {
+        } => {
             let body = fs::read(rt, path)?;
             measure_prepare(rt, body.as_slice(), rounds, policies)
         }
-        Some(Task::Edge { path, rounds }) => {
+        Task::Edge { path, rounds } => {
             let message = fs::read(rt, path)?;
             measure_edge(rt, message.as_slice(), rounds)
         }
-        None => Err(BenchFault::Usage),
     }
 }
 
 /// Checks one round on the stored body, and serves the stored message once.
-fn check_stored<R: Threads + Sync + Files + Print + AllocGlobal>(
-    rt: &R,
-) -> Result<(), BenchFault> {
+fn check_stored<R: Threads + Sync + Files + Print + AllocGlobal>(rt: &R) -> Result<(), BenchFault> {
     let body = fs::read(rt, STORED_BODY)?;
     let spans = checked_round(rt.alloc(), body.as_slice())?;
     let bytes = body.len();

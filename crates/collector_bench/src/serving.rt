@@ -108,10 +108,7 @@ impl Connection {
     }
 
     /// Reads and answers to the end of the input.
-    pub(crate) fn serve<T: Threads + Sync>(
-        &mut self,
-        rt: &T,
-    ) -> Result<Served, BenchFault> {
+    pub(crate) fn serve<T: Threads + Sync>(&mut self, rt: &T) -> Result<Served, BenchFault> {
         serve(
             rt,
             self.alloc,

@@ -7,12 +7,15 @@ ghost use Rattle.collector_bench.specs.Task.{TaskData, Asks, IsCount, count_of, 
 const MOST_POLICIES: u32 = 64;
 
 /// What the program is to do.
-#[derive(Clone, Copy, Debug)]
+#[derive(Clone, Copy)]
 pub enum Task<'a> {
     /// What is stored is checked once.
     CheckStored,
     /// Rounds of reading and writing the body in this file are measured.
-    Codec { path: &'a str, rounds: u32 },
+    Codec {
+        path: &'a str,
+        rounds: u32,
+    },
     /// Rounds of making the body in this file ready are measured, for a tenant with so many policies.
     Prepare {
         path: &'a str,
@@ -20,7 +23,10 @@ pub enum Task<'a> {
         policies: u32,
     },
     /// Rounds of serving the message in this file are measured.
-    Edge { path: &'a str, rounds: u32 },
+    Edge {
+        path: &'a str,
+        rounds: u32,
+    },
 }
 
 /// What these arguments ask for, without the program's name.

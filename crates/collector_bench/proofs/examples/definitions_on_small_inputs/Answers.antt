@@ -53,7 +53,7 @@ misnamed : (name word : List ℕ) {task : TaskData} → Asks (name ∷ path ∷ 
     → bytes_eq name (codes "edge") ≡ false → ⊥
 misnamed name word asked codec edge =
     elim ((of_three asked name path word refl).1) [
-      inl e ↦ true≢false (ap (λ n. bytes_eq n (codes "codec")) (sym e) ∙ codec)
+      | inl e ↦ true≢false (ap (λ n. bytes_eq n (codes "codec")) (sym e) ∙ codec)
       | inr e ↦ true≢false (ap (λ n. bytes_eq n (codes "edge")) (sym e) ∙ edge)
     ]
 
