@@ -1,4 +1,4 @@
-use Rattle.std.proofs.Common.{rules, ◌≡◌, ◌++◌, List, [], ℕ, length, sym, ap, ◌∙◌, append-nil}
+use Rattle.std.proofs.Common.{rules, ◌≡◌, ◌++◌, List, ℕ, length, sym, ap, ◌∙◌, append-nil}
 use Rattle.otlp_canonical.proofs.Parts.{nothing}
 use Rattle.otlp_canonical.proofs.defaults.put_between.Goals as goal
 
