@@ -35,7 +35,7 @@ fn section(alloc: Global, policies: u32) -> Result<Section, BenchFault> {
 }
 
 /// Makes the body ready so many times for a tenant with so many policies, holds what was made until the end, and prints
-/// how many nanoseconds a span and a byte took.
+/// how many spans that were and how many nanoseconds they took.
 pub(crate) fn measure_prepare<R: Threads + Sync + Clock + Print + AllocGlobal>(
     rt: &R,
     body: &[u8],

@@ -78,7 +78,7 @@ fn empty(alloc: Global, status: u16) -> Reply {
 }
 
 /// What became of a connection: how many messages were posts, and how many bytes were written.
-#[derive(Clone, Copy, Debug)]
+#[derive(Clone, Copy)]
 pub(crate) struct Served {
     pub posts: u64,
     pub written: usize,

@@ -1,7 +1,6 @@
-use Rattle.std.proofs.Common.{◌≡◌, ◌<◌, ◌≤◌, ℕ, List, [], ◌∷◌, inl, inr, codes, bytes_eq, false, refl, sym, ap, ◌∙◌, true≢false, arith, lit<}
-use Rattle.std.proofs.Math.Dec.{lit≤}
+use Rattle.std.proofs.Common.{◌≡◌, ◌<◌, ◌≤◌, ℕ, List, [], ◌∷◌, inl, inr, codes, bytes_eq, false, refl, sym, ap, ◌∙◌, true≢false, arith, lit<, lit≤}
 use Rattle.otlp_read.specs.Walk.{no_pieces}
-use Rattle.collector_bench.specs.Task.{TaskData, Asks, nothing_named, codec_named, prepare_named, edge_named, IsCount, most_rounds, most_policies}
+use Rattle.collector_bench.specs.Task.{TaskData, Asks, nothing_named, codec_named, prepare_named, edge_named, IsCount, most_rounds}
 use Rattle.collector_bench.specs.Examples.{path}
 use Rattle.collector_bench.proofs.Words.{of_three, of_four}
 use Rattle.collector_bench.proofs.examples.definitions_on_small_inputs.Goals as goal
