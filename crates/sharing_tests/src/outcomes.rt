@@ -51,9 +51,11 @@ fn is_text(alloc: Global, kind: &str, bytes: &[u8], text: &str) -> bool {
 pub fn is_waiting(alloc: Global, waiting: &Waiting, line: &str) -> bool {
     let (empty, rest) = cut(line);
     let (usage, rest) = cut(rest);
+    let (bytes, rest) = cut(rest);
     let (tenant, shard) = cut(rest);
     (empty == "yes") == waiting.is_empty
         && is_usage(alloc, waiting, usage)
+        && are_bytes(alloc, waiting, bytes)
         && is_moment(waiting.tenant_ready, tenant)
         && is_moment(waiting.shard_ready, shard)
 }
@@ -85,6 +87,19 @@ fn usage_text(
     most_batches: u64,
 ) -> Result<String, AllocError> {
     format!(in alloc; "{rows}/{undecided}/{most_rows}/{most_spans}/{batches}/{most_batches}")
+}
+
+fn are_bytes(alloc: Global, waiting: &Waiting, text: &str) -> bool {
+    let usage = &waiting.usage;
+    match bytes_text(alloc, usage.queued_bytes, usage.queued_bytes_limit) {
+        Ok(said) => said.as_str() == text,
+        Err(_) => false,
+    }
+}
+
+/// The bytes of the batches in the queue, and their limit.
+fn bytes_text(alloc: Global, bytes: u64, most_bytes: u64) -> Result<String, AllocError> {
+    format!(in alloc; "{bytes}/{most_bytes}")
 }
 
 fn is_moment(moment: Option<u64>, text: &str) -> bool {

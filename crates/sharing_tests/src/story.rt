@@ -33,23 +33,23 @@ sending_queue = { num_consumers = 1 }
 /// 2^32 milliseconds, which is 6458; a's second one, of 3750 + 7501 * 4236525527 / 2^32, which is 11148, and that is
 /// too late. The tenant with number 3 comes with b's section, so that its words are b's.
 pub const STORY: &str = "\
-- look 0 = yes 0/0/50000/100000/0/1 - -
+- look 0 = yes 0/0/50000/100000/0/1 0/4398046511104 - -
 0 post 2 9000 0 0 caller 0a20121e121c0a101111111111111111111111111111111112084141414141414141 = reply 2 200
 0 post 0 0 0 0 caller 0a20121e121c0a101111111111111111111111111111111112082121212121212121 = reply 0 200
 0 post 0 0 0 0 caller 0a20121e121c0a101212121212121212121212121212121212082222222222222222 = reply 0 200
 0 post 0 0 0 0 caller 0a20121e121c0a101313131313131313131313131313131312082323232323232323 = reply 0 200
 1 post 1 0 0 0 caller 0a20121e121c0a101111111111111111111111111111111112083131313131313131 = reply 1 200
 1 report 0 0 0 0 caller = refused 0 22
-- look 0 = no 3/3/50000/100000/0/1 1000 1000
-- look 2 = no 1/1/50000/100000/0/1000 10000 1000
+- look 0 = no 3/3/50000/100000/0/1 0/4398046511104 1000 1000
+- look 2 = no 1/1/50000/100000/0/1000 0/4398046511104 10000 1000
 0 turn 0 999 0 0 caller = idle 0 0
 0 turn 0 1000 0 0 caller = job 0 1 0a20121e121c0a101111111111111111111111111111111112082121212121212121
 0 report 0 1000 0 0 caller = report 0 0 accepted=3 undecided=0 pending=0 queued=0 active=1 exported=0 \
 not_sampled=0 too_early=0 queue_full=2 retry_exhausted=0 back_end_refused=0 back_end_rejected=0 invalid=0 over_budget=0
-- look 0 = no 3/0/50000/100000/0/1 - 10000
+- look 0 = no 3/0/50000/100000/0/1 0/4398046511104 - 10000
 1 turn 0 1000 0 0 caller = job 1 1 0a20121e121c0a101111111111111111111111111111111112083131313131313131
 0 answer 0 1000 1 298703107 drawn 503 40 = done 0 0
-- look 0 = no 3/0/50000/100000/0/1 41000 10000
+- look 0 = no 3/0/50000/100000/0/1 0/4398046511104 41000 10000
 1 answer 1 1000 1 3400036912 drawn 503 = done 1 0
 1 answer 1 1000 1 3349765444 drawn 200 = refused 1 21
 0 turn 0 9999 0 0 caller = idle 0 0
@@ -61,38 +61,44 @@ not_sampled=2 too_early=0 queue_full=0 retry_exhausted=0 back_end_refused=0 back
 0 answer 0 41000 2 4236525527 drawn 503 = done 0 0
 0 report 0 41000 0 0 caller = report 0 0 accepted=3 undecided=0 pending=0 queued=0 active=0 exported=0 \
 not_sampled=0 too_early=0 queue_full=2 retry_exhausted=1 back_end_refused=0 back_end_rejected=0 invalid=0 over_budget=0
-- look 0 = yes 3/0/50000/100000/0/1 - -
+- look 0 = yes 3/0/50000/100000/0/1 0/4398046511104 - -
 1 post 1 5000 0 0 caller 0a20121e121c0a101212121212121212121212121212121212083232323232323232 = reply 1 200
 1 drain 1 5000 0 0 caller = done 1 0
 1 post 1 5000 0 0 caller 0a20121e121c0a101313131313131313131313131313131312083333333333333333 = reply 1 503 \
 120d7368757474696e6720646f776e
-- look 1 = no 2/0/50000/100000/1/1000 7458 7458
+- look 1 = no 2/0/50000/100000/1/1000 0/4398046511104 7458 7458
 1 report 1 5000 0 0 caller = report 1 0 accepted=2 undecided=0 pending=0 queued=1 active=1 exported=0 \
 not_sampled=0 too_early=0 queue_full=0 retry_exhausted=0 back_end_refused=0 back_end_rejected=0 invalid=0 over_budget=0
 1 turn 0 7457 0 0 caller = idle 0 0
 1 turn 0 7458 0 0 caller = job 1 2 0a20121e121c0a101111111111111111111111111111111112083131313131313131
 1 answer 1 7458 2 515166382 drawn 200 = done 1 0
-- look 1 = no 2/0/50000/100000/1/1000 5000 5000
+- look 1 = no 2/0/50000/100000/1/1000 0/4398046511104 5000 5000
 1 turn 0 7458 0 0 caller = job 1 3 0a20121e121c0a101212121212121212121212121212121212083232323232323232
 1 answer 1 7458 3 4224707908 drawn 200 = done 1 0
 1 report 1 7458 0 0 caller = report 1 0 accepted=2 undecided=0 pending=0 queued=0 active=0 exported=2 \
 not_sampled=0 too_early=0 queue_full=0 retry_exhausted=0 back_end_refused=0 back_end_rejected=0 invalid=0 over_budget=0
-- look 1 = yes 2/0/50000/100000/0/1000 - -
+- look 1 = yes 2/0/50000/100000/0/1000 0/4398046511104 - -
 1 answer 7 7458 1 0 nobody 200 = refused 7 22
-- look 7 = no 0/0/0/0/0/0 - -
+- look 7 = no 0/0/0/0/0/0 0/0 - -
 1 add 1 0 0 0 caller 0 = refused 1 25
 1 post 3 0 0 0 caller 0a20121e121c0a101111111111111111111111111111111112084141414141414141 1 = refused 3 22
 1 add 3 0 0 0 caller 1 = done 3 0
-- look 3 = yes 0/0/50000/100000/0/1000 - -
+- look 3 = yes 0/0/50000/100000/0/1000 0/4398046511104 - -
 1 post 3 0 0 0 caller 0a20121e121c0a101111111111111111111111111111111112084141414141414141 1 = reply 3 200
 1 turn 0 1000 0 0 caller = job 3 1 0a20121e121c0a101111111111111111111111111111111112084141414141414141
+1 post 3 1000 0 0 caller 0a20121e121c0a101212121212121212121212121212121212084242424242424242 1 = reply 3 200
+1 report 3 2000 0 0 caller = report 3 0 accepted=2 undecided=0 pending=0 queued=1 active=1 exported=0 \
+not_sampled=0 too_early=0 queue_full=0 retry_exhausted=0 back_end_refused=0 back_end_rejected=0 invalid=0 over_budget=0
+- look 3 = no 2/0/50000/100000/1/1000 34/4398046511104 - -
 1 retire 3 1000 0 0 caller = refused 3 26
 1 answer 3 1000 1 0 caller 200 = done 3 0
+1 turn 0 2000 0 0 caller = job 3 2 0a20121e121c0a101212121212121212121212121212121212084242424242424242
+1 answer 3 2000 2 0 caller 200 = done 3 0
 1 answer 3 1000 1 3400036912 drawn 200 = refused 3 21
 1 drain 3 1000 0 0 caller = done 3 0
-1 retire 3 1000 0 0 caller = report 3 0 accepted=1 undecided=0 pending=0 queued=0 active=0 exported=1 \
+1 retire 3 1000 0 0 caller = report 3 0 accepted=2 undecided=0 pending=0 queued=0 active=0 exported=2 \
 not_sampled=0 too_early=0 queue_full=0 retry_exhausted=0 back_end_refused=0 back_end_rejected=0 invalid=0 over_budget=0
-- look 3 = no 0/0/0/0/0/0 - -
+- look 3 = no 0/0/0/0/0/0 0/0 - -
 1 post 3 1000 0 0 caller 0a20121e121c0a101111111111111111111111111111111112084141414141414141 1 = refused 3 22
 1 answer 3 1000 1 0 nobody 200 = refused 3 22
 1 add 3 0 0 0 caller 1 = refused 3 25
@@ -119,7 +125,8 @@ pub struct Line<'s> {
     pub second: &'s str,
     /// A kind of outcome, a tenant, a number and perhaps a text: hexadecimal digits, but for a report. Of a question
     /// whether the tenant holds no spans, its rows, those of them that are undecided, the limits of rows and of spans,
-    /// its batches in the queue and their limit, and when it and its shard are ready next, or `-` for never.
+    /// its batches in the queue and their limit, their bytes (34 a batch of one span; none after a drain) and how many
+    /// they may have, and when it and its shard are ready next, or `-` for never.
     pub outcome: &'s str,
 }
 

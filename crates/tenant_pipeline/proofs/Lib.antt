@@ -17,6 +17,7 @@ pub mod Ranges
 pub mod Firsts
 pub mod Settling
 pub mod Behind
+pub mod Bytes
 pub mod Unwritten
 pub mod Stepping
 pub mod Ahead

@@ -10,7 +10,7 @@ ghost use Rattle.tenant_stores.specs.Promises.{OthersUnchanged};
 ghost use Rattle.tenant_rules.specs.Ready.{ready};
 ghost use Rattle.tenant_rules.specs.Retiring.{holds_none};
 ghost use Rattle.tenant_pipeline.specs.StateIn.{state_of, state_in};
-ghost use Rattle.tenant_pipeline.specs.Present.{rows_present, usage_of};
+ghost use Rattle.tenant_pipeline.specs.Present.{rows_present, bytes_waiting, usage_of};
 ghost use Rattle.tenant_pipeline.specs.Invariant.{PipelineInvariantBy, PipelineInvariant, IsSwept, HasNonePending};
 ghost use Rattle.tenant_pipeline.specs.Steps.{StandsFor};
 
@@ -22,7 +22,7 @@ use send_queue::SendQueue;
 use span_batcher::SpanBatcher;
 use std::alloc::{AllocError, Global};
 use tail_policy::TraceNote;
-use tail_settings::Section;
+use tail_settings::{MOST_QUEUE_BYTES, Section};
 use tenant_stores::Stores;
 
 /// A later moment is taken as this one, in milliseconds.
@@ -156,7 +156,32 @@ impl Pipeline {
             spans_limit: u64::from(self.section.max_spans),
             queued_batches: (self.sender.queued() as u64).saturating_add(self.unsent.len() as u64),
             queued_batches_limit: u64::from(self.sender.capacity()),
+            queued_bytes: self.bytes_waiting(),
+            queued_bytes_limit: self.bytes_allowed(),
         }
+    }
+
+    /// How many bytes its batches that wait have together; 0 after a drain.
+    fn bytes_waiting(&self) -> u64
+        ensures { (p : Part Note) → PipelineInvariantBy self.now p → result
+            ≡ bytes_waiting (state_of self.now p) }
+    {
+        if self.drained {
+            return 0;
+        }
+        self.bytes_allowed()
+            .saturating_sub(self.sender.bytes_left())
+    }
+
+    /// How many bytes they may have so.
+    fn bytes_allowed(&self) -> u64
+        ensures { (p : Part Note) → PipelineInvariantBy self.now p → result
+            ≡ (state_of self.now p).sender.sending.queue_bytes }
+    {
+        if self.drained {
+            return MOST_QUEUE_BYTES;
+        }
+        self.section.sending_queue.queue_bytes
     }
 
     /// How many of its rows are present: those that wait, and decided ones that late spans still follow.

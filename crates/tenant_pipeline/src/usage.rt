@@ -18,6 +18,11 @@ pub struct Usage {
     pub queued_batches: u64,
     /// How many batches may wait so. A further one is dropped.
     pub queued_batches_limit: u64,
+    /// How many bytes those batches have together. 0 once the tenant is drained: bytes bound them no more then, and
+    /// not all of them are written.
+    pub queued_bytes: u64,
+    /// How many they may have so, 2^42 where nothing bounds them. A batch with which they would have more is dropped.
+    pub queued_bytes_limit: u64,
 }
 
 impl Usage {
@@ -32,6 +37,8 @@ impl Usage {
             spans_limit: 0,
             queued_batches: 0,
             queued_batches_limit: 0,
+            queued_bytes: 0,
+            queued_bytes_limit: 0,
         }
     }
 }

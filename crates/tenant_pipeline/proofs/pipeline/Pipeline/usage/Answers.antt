@@ -11,5 +11,5 @@ returns c = λ p holds.
     let both = length-append own.sender.queue (unsent_at p own.unsent) in
     let many = unsent_length p own.unsent in
     let queued : c.saturating_add.result ≡ length (own.sender.queue ++ unsent_at p own.unsent) = omega (arith, c.saturating_add.ensures, c.queued.ensures, c.len.ensures, fits, range.1, both, many) in
-    rw (c.rows_present.ensures p holds, c.rows_undecided.ensures p holds, c.from.ensures, c.from-2.ensures, queued, c.from-3.ensures, c.capacity.ensures)
+    rw (c.rows_present.ensures p holds, c.rows_undecided.ensures p holds, c.from.ensures, c.from-2.ensures, queued, c.from-3.ensures, c.capacity.ensures, c.bytes_waiting.ensures p holds, c.bytes_allowed.ensures p holds)
     refl
