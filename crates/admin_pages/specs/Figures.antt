@@ -33,4 +33,6 @@ no_usage = record {
   spans_limit = 0;
   queued_batches = 0;
   queued_batches_limit = 0;
+  queued_bytes = 0;
+  queued_bytes_limit = 0;
 }

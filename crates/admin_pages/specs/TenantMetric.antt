@@ -8,7 +8,7 @@ use Rattle.admin_pages.specs.Figures.{TenantData}
 use Rattle.admin_pages.specs.declared.tenant_metric.MetricKind.{MetricKind}
 use Rattle.admin_pages.specs.declared.tenant_metric.MetricKind.TheVariants.{Counter, Gauge}
 use Rattle.admin_pages.specs.declared.tenant_metric.TenantMetric.{TenantMetric}
-use Rattle.admin_pages.specs.declared.tenant_metric.TenantMetric.TheVariants.{Accepted, Undecided, Pending, Queued, Active, Exported, NotSampled, TooEarly, QueueFull, RetryExhausted, BackEndRefused, BackEndRejected, Invalid, OverBudget, Rows, UndecidedRows, RowsLimit, SpansLimit, QueuedBatches, QueuedBatchesLimit, Ready, BackEndStatus, BackEndStatusMoment}
+use Rattle.admin_pages.specs.declared.tenant_metric.TenantMetric.TheVariants.{Accepted, Undecided, Pending, Queued, Active, Exported, NotSampled, TooEarly, QueueFull, RetryExhausted, BackEndRefused, BackEndRejected, Invalid, OverBudget, Rows, UndecidedRows, RowsLimit, SpansLimit, QueuedBatches, QueuedBatchesLimit, QueuedBytes, QueuedBytesLimit, Ready, BackEndStatus, BackEndStatusMoment}
 
 -- the counters of its spans, in the order of a report's line
 abbrev pub all_counters : List TenantMetric
@@ -19,8 +19,8 @@ all_counters =
 -- all others, in the order in which they are told
 abbrev pub all_others : List TenantMetric
 all_others =
-    Rows ∷ UndecidedRows ∷ RowsLimit ∷ SpansLimit ∷ QueuedBatches ∷ QueuedBatchesLimit ∷ Ready ∷ BackEndStatus ∷
-    BackEndStatusMoment ∷ []
+    Rows ∷ UndecidedRows ∷ RowsLimit ∷ SpansLimit ∷ QueuedBatches ∷ QueuedBatchesLimit ∷ QueuedBytes ∷
+    QueuedBytesLimit ∷ Ready ∷ BackEndStatus ∷ BackEndStatusMoment ∷ []
 
 -- what it is for a tenant, moments in milliseconds since the start; none where nothing waits, or nothing was answered
 abbrev pub value_of : TenantMetric → TenantData → Option ℕ
@@ -44,6 +44,8 @@ value_of RowsLimit tenant = Some tenant.usage.rows_limit
 value_of SpansLimit tenant = Some tenant.usage.spans_limit
 value_of QueuedBatches tenant = Some tenant.usage.queued_batches
 value_of QueuedBatchesLimit tenant = Some tenant.usage.queued_batches_limit
+value_of QueuedBytes tenant = Some tenant.usage.queued_bytes
+value_of QueuedBytesLimit tenant = Some tenant.usage.queued_bytes_limit
 value_of Ready tenant = tenant.ready
 value_of BackEndStatus tenant = option_map (λ answer. answer.status) tenant.back_end
 value_of BackEndStatusMoment tenant = option_map (λ answer. answer.moment) tenant.back_end
@@ -70,6 +72,8 @@ word_of RowsLimit = codes "rows_limit"
 word_of SpansLimit = codes "spans_limit"
 word_of QueuedBatches = codes "queued_batches"
 word_of QueuedBatchesLimit = codes "queued_batches_limit"
+word_of QueuedBytes = codes "queued_bytes"
+word_of QueuedBytesLimit = codes "queued_bytes_limit"
 word_of Ready = codes "ready_at_ms"
 word_of BackEndStatus = codes "back_end_status"
 word_of BackEndStatusMoment = codes "back_end_status_at_ms"
@@ -96,6 +100,8 @@ metric_of RowsLimit = codes "nimchaes_traces_limit"
 metric_of SpansLimit = codes "nimchaes_spans_limit"
 metric_of QueuedBatches = codes "otelcol_exporter_queue_size"
 metric_of QueuedBatchesLimit = codes "otelcol_exporter_queue_capacity"
+metric_of QueuedBytes = codes "nimchaes_queued_bytes"
+metric_of QueuedBytesLimit = codes "nimchaes_queued_bytes_limit"
 metric_of Ready = codes "nimchaes_ready_uptime_seconds"
 metric_of BackEndStatus = codes "nimchaes_back_end_last_status"
 metric_of BackEndStatusMoment = codes "nimchaes_back_end_last_status_uptime_seconds"
@@ -122,6 +128,8 @@ help_of RowsLimit = codes "Traces that may be present"
 help_of SpansLimit = codes "Spans that may wait for a decision or for a batch"
 help_of QueuedBatches = codes "Batches that wait to be sent"
 help_of QueuedBatchesLimit = codes "Batches that may wait to be sent"
+help_of QueuedBytes = codes "Bytes of batches that wait to be sent or 0 after a drain"
+help_of QueuedBytesLimit = codes "Bytes that batches may have that wait to be sent"
 help_of Ready = codes "Seconds after the start at which something of the tenant is due next"
 help_of BackEndStatus = codes "Status that the back end answered last or 0 if no whole answer came"
 help_of BackEndStatusMoment = codes "Seconds after the start at which the back end answered last"

@@ -18,6 +18,10 @@ pub struct TenantUsage {
     pub queued_batches: u64,
     /// How many may wait so. A further one is dropped.
     pub queued_batches_limit: u64,
+    /// How many bytes those batches have together. 0 once the tenant is drained.
+    pub queued_bytes: u64,
+    /// How many they may have so. A batch with which they would have more is dropped.
+    pub queued_bytes_limit: u64,
 }
 
 impl TenantUsage {
@@ -32,6 +36,8 @@ impl TenantUsage {
             spans_limit: 0,
             queued_batches: 0,
             queued_batches_limit: 0,
+            queued_bytes: 0,
+            queued_bytes_limit: 0,
         }
     }
 }

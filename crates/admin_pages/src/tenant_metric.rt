@@ -68,6 +68,10 @@ pub enum TenantMetric {
     QueuedBatches,
     /// How many of them may.
     QueuedBatchesLimit,
+    /// How many bytes they have together.
+    QueuedBytes,
+    /// How many they may have.
+    QueuedBytesLimit,
     /// When something of the tenant is due next.
     Ready,
     /// The status that its back end answered last, 0 where no whole answer came.
@@ -101,7 +105,7 @@ impl TenantMetric {
 
     /// All others, in the order in which they are told: how full it is and may be, what is due, and what its back end
     /// answered.
-    pub fn others() -> [TenantMetric; 9]
+    pub fn others() -> [TenantMetric; 11]
         ensures { result ≡ all_others }
     {
         [
@@ -111,6 +115,8 @@ impl TenantMetric {
             TenantMetric::SpansLimit,
             TenantMetric::QueuedBatches,
             TenantMetric::QueuedBatchesLimit,
+            TenantMetric::QueuedBytes,
+            TenantMetric::QueuedBytesLimit,
             TenantMetric::Ready,
             TenantMetric::BackEndStatus,
             TenantMetric::BackEndStatusMoment,
@@ -144,6 +150,8 @@ impl TenantMetric {
             TenantMetric::SpansLimit => Some(usage.spans_limit),
             TenantMetric::QueuedBatches => Some(usage.queued_batches),
             TenantMetric::QueuedBatchesLimit => Some(usage.queued_batches_limit),
+            TenantMetric::QueuedBytes => Some(usage.queued_bytes),
+            TenantMetric::QueuedBytesLimit => Some(usage.queued_bytes_limit),
             TenantMetric::Ready => tenant.ready,
             TenantMetric::BackEndStatus => tenant.back_end.map(|answer| u64::from(answer.status)),
             TenantMetric::BackEndStatusMoment => tenant.back_end.map(|answer| answer.moment),
@@ -175,6 +183,8 @@ impl TenantMetric {
             TenantMetric::SpansLimit => "spans_limit",
             TenantMetric::QueuedBatches => "queued_batches",
             TenantMetric::QueuedBatchesLimit => "queued_batches_limit",
+            TenantMetric::QueuedBytes => "queued_bytes",
+            TenantMetric::QueuedBytesLimit => "queued_bytes_limit",
             TenantMetric::Ready => "ready_at_ms",
             TenantMetric::BackEndStatus => "back_end_status",
             TenantMetric::BackEndStatusMoment => "back_end_status_at_ms",
@@ -206,6 +216,8 @@ impl TenantMetric {
             TenantMetric::SpansLimit => "nimchaes_spans_limit",
             TenantMetric::QueuedBatches => "otelcol_exporter_queue_size",
             TenantMetric::QueuedBatchesLimit => "otelcol_exporter_queue_capacity",
+            TenantMetric::QueuedBytes => "nimchaes_queued_bytes",
+            TenantMetric::QueuedBytesLimit => "nimchaes_queued_bytes_limit",
             TenantMetric::Ready => "nimchaes_ready_uptime_seconds",
             TenantMetric::BackEndStatus => "nimchaes_back_end_last_status",
             TenantMetric::BackEndStatusMoment => "nimchaes_back_end_last_status_uptime_seconds",
@@ -239,6 +251,8 @@ impl TenantMetric {
             TenantMetric::SpansLimit => "Spans that may wait for a decision or for a batch",
             TenantMetric::QueuedBatches => "Batches that wait to be sent",
             TenantMetric::QueuedBatchesLimit => "Batches that may wait to be sent",
+            TenantMetric::QueuedBytes => "Bytes of batches that wait to be sent or 0 after a drain",
+            TenantMetric::QueuedBytesLimit => "Bytes that batches may have that wait to be sent",
             TenantMetric::Ready =>
                 "Seconds after the start at which something of the tenant is due next",
             TenantMetric::BackEndStatus =>

@@ -17,7 +17,8 @@ pub fn tenant(alloc: Global, name: &str, counters: [u64; 14]) -> Result<TenantFi
     })
 }
 
-/// 5 rows of at most 50,000, 4 of them undecided, room for 1,000 spans, and 2 batches in a queue for 3.
+/// 5 rows of at most 50,000, 4 of them undecided, room for 1,000 spans, and 2 batches in a queue for 3, of 68 bytes in
+/// one for 70.
 pub const HALF_FULL: TenantUsage = TenantUsage {
     rows: 5,
     undecided_rows: 4,
@@ -25,6 +26,8 @@ pub const HALF_FULL: TenantUsage = TenantUsage {
     spans_limit: 1_000,
     queued_batches: 2,
     queued_batches_limit: 3,
+    queued_bytes: 68,
+    queued_bytes_limit: 70,
 };
 
 /// A tenant of this name without spans that is so full.

@@ -27,6 +27,14 @@ nimchaes_undecided_spans{tenant=\"a\"} 2\n"
     let ends = b"# TYPE otelcol_exporter_queue_capacity gauge\n\
 otelcol_exporter_queue_capacity{tenant=\"a\"} 0\n\
 otelcol_exporter_queue_capacity{tenant=\"b\\\\c\\\"d\\ne\"} 0\n\
+# HELP nimchaes_queued_bytes Bytes of batches that wait to be sent or 0 after a drain\n\
+# TYPE nimchaes_queued_bytes gauge\n\
+nimchaes_queued_bytes{tenant=\"a\"} 0\n\
+nimchaes_queued_bytes{tenant=\"b\\\\c\\\"d\\ne\"} 0\n\
+# HELP nimchaes_queued_bytes_limit Bytes that batches may have that wait to be sent\n\
+# TYPE nimchaes_queued_bytes_limit gauge\n\
+nimchaes_queued_bytes_limit{tenant=\"a\"} 0\n\
+nimchaes_queued_bytes_limit{tenant=\"b\\\\c\\\"d\\ne\"} 0\n\
 # HELP nimchaes_ready_uptime_seconds Seconds after the start at which something of the tenant is due next\n\
 # TYPE nimchaes_ready_uptime_seconds gauge\n\
 # HELP nimchaes_back_end_last_status Status that the back end answered last or 0 if no whole answer came\n\
@@ -37,7 +45,7 @@ otelcol_exporter_queue_capacity{tenant=\"b\\\\c\\\"d\\ne\"} 0\n\
     assert!(rt; text.ends_with(ends));
     assert_eq!(rt;
         text.iter().filter(|byte| **byte == b'\n').count(),
-        20 * 4 + 3 * 2
+        22 * 4 + 3 * 2
     );
     Ok(())
 }
@@ -71,6 +79,14 @@ otelcol_exporter_queue_size{tenant=\"b\\\"\"} 0\n\
 # TYPE otelcol_exporter_queue_capacity gauge\n\
 otelcol_exporter_queue_capacity{tenant=\"a\"} 3\n\
 otelcol_exporter_queue_capacity{tenant=\"b\\\"\"} 0\n\
+# HELP nimchaes_queued_bytes Bytes of batches that wait to be sent or 0 after a drain\n\
+# TYPE nimchaes_queued_bytes gauge\n\
+nimchaes_queued_bytes{tenant=\"a\"} 68\n\
+nimchaes_queued_bytes{tenant=\"b\\\"\"} 0\n\
+# HELP nimchaes_queued_bytes_limit Bytes that batches may have that wait to be sent\n\
+# TYPE nimchaes_queued_bytes_limit gauge\n\
+nimchaes_queued_bytes_limit{tenant=\"a\"} 70\n\
+nimchaes_queued_bytes_limit{tenant=\"b\\\"\"} 0\n\
 # HELP nimchaes_ready_uptime_seconds Seconds after the start at which something of the tenant is due next\n\
 # TYPE nimchaes_ready_uptime_seconds gauge\n\
 # HELP nimchaes_back_end_last_status Status that the back end answered last or 0 if no whole answer came\n\
@@ -96,7 +112,8 @@ fn each_tenant_has_each_gauge(rt: HostRuntime) -> Result<(), Fail> {
     put_tenant(alloc, &mut text, &with_usage(alloc, "a", HALF_FULL)?)?;
     let ends =
         b",\"over_budget\":0,\"rows\":5,\"undecided_rows\":4,\"rows_limit\":50000,\"spans_limit\":1000,\
-\"queued_batches\":2,\"queued_batches_limit\":3,\"ready_at_ms\":null,\"back_end_status\":null,\"back_end_status_at_ms\":null}"
+\"queued_batches\":2,\"queued_batches_limit\":3,\"queued_bytes\":68,\"queued_bytes_limit\":70,\"ready_at_ms\":null,\
+\"back_end_status\":null,\"back_end_status_at_ms\":null}"
             .as_slice();
     assert!(rt; text.ends_with(ends));
     Ok(())
@@ -193,7 +210,8 @@ const EACH_COUNTERS: &str =
 /// What stands behind the counters of a tenant that isn't full and waits for nothing.
 const EMPTY_MEMBERS: &str =
     ",\"rows\":0,\"undecided_rows\":0,\"rows_limit\":0,\"spans_limit\":0,\"queued_batches\":0,\
-\"queued_batches_limit\":0,\"ready_at_ms\":null,\"back_end_status\":null,\"back_end_status_at_ms\":null}";
+\"queued_batches_limit\":0,\"queued_bytes\":0,\"queued_bytes_limit\":0,\"ready_at_ms\":null,\"back_end_status\":null,\
+\"back_end_status_at_ms\":null}";
 
 #[test]
 fn a_tenant_is_an_object(rt: HostRuntime) -> Result<(), Fail> {
@@ -225,7 +243,7 @@ fn who_waits_has_a_moment_in_milliseconds(rt: HostRuntime) -> Result<(), Fail> {
         let mut text = Vec::new(rt.alloc());
         put_tenant(rt.alloc(), &mut text, &due(rt.alloc(), "a", moment)?)?;
         let ends = format!(in rt.alloc();
-            ",\"queued_batches_limit\":0,\"ready_at_ms\":{told},\"back_end_status\":null,\"back_end_status_at_ms\":null}}"
+            ",\"queued_bytes_limit\":0,\"ready_at_ms\":{told},\"back_end_status\":null,\"back_end_status_at_ms\":null}}"
         )?;
         assert!(rt; text.ends_with(ends.as_bytes()));
     }

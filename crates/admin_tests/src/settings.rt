@@ -11,8 +11,8 @@ const BEFORE: &str =
     "{\"tenant\":\"a\",\"accepted\":0,\"undecided\":0,\"pending\":0,\"queued\":0,\"active\":0,\
 \"exported\":0,\"not_sampled\":0,\"too_early\":0,\"queue_full\":0,\"retry_exhausted\":0,\"back_end_refused\":0,\
 \"back_end_rejected\":0,\"invalid\":0,\"over_budget\":0,\"rows\":0,\"undecided_rows\":0,\"rows_limit\":0,\
-\"spans_limit\":0,\"queued_batches\":0,\"queued_batches_limit\":0,\"ready_at_ms\":null,\"back_end_status\":null,\
-\"back_end_status_at_ms\":null,\"settings\":";
+\"spans_limit\":0,\"queued_batches\":0,\"queued_batches_limit\":0,\"queued_bytes\":0,\"queued_bytes_limit\":0,\
+\"ready_at_ms\":null,\"back_end_status\":null,\"back_end_status_at_ms\":null,\"settings\":";
 
 /// What is shown of the only tenant of a document, behind its counters.
 fn shown(alloc: Global, document: &str) -> Result<Vec<u8>, Fail> {
