@@ -45,13 +45,16 @@ LATER = ({"tenant": "calm", "accepted": 140, "undecided": 5, "pending": 10, "que
          {"tenant": "loud", "accepted": 1000, "exported": 750, "not_sampled": 100, "too_early": 100, "queue_full": 50},
          {"tenant": "<b>bold</b>", "accepted": 10, "undecided": 8, "queue_full": 2, "invalid": 30},
          {"tenant": "old", "accepted": 16, "retry_exhausted": 7, "back_end_rejected": 9})
-# How full each is then, and may be. Decided traces that are still remembered don't fill it.
+# How full each is then, and may be. Decided traces that are still remembered don't fill it. A queue is as full as its batches
+# or its bytes are, whichever fills more.
 LEVELS = ({"rows": 3, "undecided_rows": 2, "rows_limit": 50_000, "spans_limit": 18, "queued_batches": 3,
-           "queued_batches_limit": 1_000},
+           "queued_batches_limit": 1_000, "queued_bytes": 380_000_000, "queued_bytes_limit": 400_000_000},
           {"rows": 10, "undecided_rows": 0, "rows_limit": 10, "spans_limit": 100_000, "queued_batches": 1_000,
-           "queued_batches_limit": 1_000},
-          {"rows": 7, "undecided_rows": 6, "rows_limit": 7, "spans_limit": 10, "queued_batches": 0, "queued_batches_limit": 1},
-          {"rows": 1, "undecided_rows": 1, "rows_limit": 1, "spans_limit": 1, "queued_batches": 81, "queued_batches_limit": 101})
+           "queued_batches_limit": 1_000, "queued_bytes": 399_999_999, "queued_bytes_limit": 400_000_000},
+          {"rows": 7, "undecided_rows": 6, "rows_limit": 7, "spans_limit": 10, "queued_batches": 0, "queued_batches_limit": 1,
+           "queued_bytes": 0, "queued_bytes_limit": 400_000_000},
+          {"rows": 1, "undecided_rows": 1, "rows_limit": 1, "spans_limit": 1, "queued_batches": 81, "queued_batches_limit": 101,
+           "queued_bytes": 2_717_908_992, "queued_bytes_limit": 4_398_046_511_104})
 # Gives the page both, as if it had asked for them, and reads what it shows.
 SHOWN = """
 (() => {
@@ -297,12 +300,12 @@ def figures(folder):
                                         "0 in, 0 out, 0 lost"])
         check("how full", shown["full"], [
             "traces 6 of 7 (85 % full), spans 8 of 10, queue 0 of 1",
-            "traces 2 of 50,000, spans 15 of 18 (83 % full), queue 3 of 1,000",
+            "traces 2 of 50,000, spans 15 of 18 (83 % full), queue 380,000,000 of 400,000,000 bytes (95 % full)",
             "traces 0 of 10, spans 0 of 100,000, queue 1,000 of 1,000 (100 % full)",
             "traces 1 of 1 (100 % full), spans 0 of 1, queue 81 of 101 (80 % full)"])
         check("nearly full", shown["nearly"], [
-            "traces 6 of 7 (85 % full)", "spans 15 of 18 (83 % full)", "queue 1,000 of 1,000 (100 % full)",
-            "traces 1 of 1 (100 % full)", "queue 81 of 101 (80 % full)"])
+            "traces 6 of 7 (85 % full)", "spans 15 of 18 (83 % full)", "queue 380,000,000 of 400,000,000 bytes (95 % full)",
+            "queue 1,000 of 1,000 (100 % full)", "traces 1 of 1 (100 % full)", "queue 81 of 101 (80 % full)"])
         check("bars", shown["widths"], [
             ["20%"], ["6.25%", "93.75%"], ["12.5%", "25%", "12.5%", "50%"], ["100%"], [], ["75%", "10%", "10%", "5%"],
             [], ["43.75%", "56.25%"]])

@@ -18,7 +18,7 @@ from serving.talk import (ALL, BUSY, EXPECT, GO_ON, MOST, NAMES, SOON, BackEnd, 
 TOKEN = "Zm9yIHRlc3RzIGFsb25l"
 # What is there of a tenant without spans whose settings have the defaults, and what may be there (docs/SETTINGS.md).
 EMPTY = {"rows": 0, "undecided_rows": 0, "rows_limit": 50_000, "spans_limit": 100_000, "queued_batches": 0,
-         "queued_batches_limit": 1000}
+         "queued_batches_limit": 1000, "queued_bytes": 0, "queued_bytes_limit": 2 ** 42}
 JSON = "application/json"
 
 

@@ -21,11 +21,12 @@ OF_SERVICE = {"gauge": ("nimchaes_build_info", "nimchaes_tenants", "nimchaes_dra
 METRICS = {"accepted": "otelcol_receiver_accepted_spans_total", "exported": "otelcol_exporter_sent_spans_total",
            "queue_full": "otelcol_exporter_enqueue_failed_spans_total"}
 # Gauges of how full a tenant is, by their words in JSON. The Collector's tail sampling processor has the first of the
-# traces that it has in memory, and its exporters have the last two of the batches in their queues.
+# traces that it has in memory, and its exporters have two of the batches in their queues.
 USAGE = {"rows": "otelcol_processor_tail_sampling_sampling_traces_on_memory",
          "undecided_rows": "nimchaes_undecided_traces", "rows_limit": "nimchaes_traces_limit",
          "spans_limit": "nimchaes_spans_limit",
-         "queued_batches": "otelcol_exporter_queue_size", "queued_batches_limit": "otelcol_exporter_queue_capacity"}
+         "queued_batches": "otelcol_exporter_queue_size", "queued_batches_limit": "otelcol_exporter_queue_capacity",
+         "queued_bytes": "nimchaes_queued_bytes", "queued_bytes_limit": "nimchaes_queued_bytes_limit"}
 # What is told where spans come in (docs/HTTP.md), and what all else is counted under.
 STATUSES = ("200", "400", "403", "404", "405", "413", "415", "429", "431", "503", "other")
 # So many scrapes are measured, one a second, and as many seconds of rest.
@@ -106,11 +107,12 @@ def scraped(folder):
 
 
 def filled(folder):
-    """A queue is full, rows are, and the budget of spans is, before the next batch, trace or span is lost."""
+    """A queue is full, in batches or in bytes, rows are, and the budget of spans is, before the next batch, trace or span
+    is lost. Once a queue is drained its bytes are told no more, and nothing bounds them. A batch of one span has 34."""
     few = tenant("rows", BackEnd(), wait=86_400_000).replace("decision_wait_ms", "num_traces = 2\ndecision_wait_ms")
     with BackEnd(None) as held, BackEnd(BUSY) as busy, AdminService(
-            folder, [tenant("queue", held, queue=2), tenant("again", busy, queue=2, retry=200_000), few,
-                     tenant("spans", held, wait=86_400_000, most=3)], senders=4) as service:
+            folder, [tenant("queue", held, queue=2), tenant("bytes", held, queue=3), tenant("again", busy, queue=2, retry=200_000),
+                     few, tenant("spans", held, wait=86_400_000, most=3)], "--queue-bytes", "70", senders=4) as service:
         def told(name, *words):
             row = service.told(f"/tenants/{name}")[1]
             return tuple(row[word] for word in words)
@@ -119,17 +121,18 @@ def filled(folder):
             check(f"post {number} of {name}", service.post(name, body(number, number))[0], status)
 
         # Each trace is a batch: the first is on its way, two wait, and a further one is dropped.
-        queue = ("accepted", "active", "queued_batches", "queued_batches_limit", "queue_full")
-        for number, wanted in enumerate(((1, 1, 0, 2, 0), (2, 1, 1, 2, 0), (3, 1, 2, 2, 0), (4, 1, 2, 2, 1)), 1):
-            post("queue", number)
-            wait_for(lambda: told("queue", "undecided", "pending") == (0, 0), "it is decided")
-            wait_for(lambda: told("queue", *queue) == wanted, f"{number} in a queue")
+        queue = ("accepted", "active", "queued_batches", "queued_bytes", "queue_full", "queued_batches_limit", "queued_bytes_limit")
+        for name, *limits in (("queue", 2, 70), ("bytes", 3, 70)):
+            for number, wanted in enumerate(((1, 1, 0, 0, 0), (2, 1, 1, 34, 0), (3, 1, 2, 68, 0), (4, 1, 2, 68, 1)), 1):
+                post(name, number)
+                wait_for(lambda: told(name, "undecided", "pending") == (0, 0), "it is decided")
+                wait_for(lambda: told(name, *queue) == (*wanted, *limits), f"{number} in a queue")
         # A batch that waits to be sent again has a consumer, and is none that the queue has.
         post("again", 1)
         wait_for(lambda: busy.posts and told("again", "ready_at_ms")[0], "it is to be sent again")
-        check("none in the queue", told("again", *queue), (1, 1, 0, 2, 0))
+        check("none in the queue", told("again", *queue), (1, 1, 0, 0, 0, 2, 70))
         post("again", 2)
-        wait_for(lambda: told("again", *queue) == (2, 1, 1, 2, 0), "the next one waits")
+        wait_for(lambda: told("again", *queue) == (2, 1, 1, 34, 0, 2, 70), "the next one waits")
         rows = ("rows", "undecided_rows", "rows_limit", "too_early")
         for number, wanted in enumerate(((1, 1, 2, 0), (2, 2, 2, 0), (2, 2, 2, 1)), 1):
             post("rows", number)
@@ -139,9 +142,11 @@ def filled(folder):
                                                     (429, 3, 0, 3, 0)), 1):
             post("spans", number, status)
             check(f"{number} spans", told("spans", *spans), tuple(wanted))
-        for name, size in (("queue", 2.0), ("again", 1.0)):
-            check(f"{name} by metrics", [service.metric(f"otelcol_exporter_queue_{what}", tenant=name)
-                                         for what in ("size", "capacity")], [size, 2.0])
+        for name, *wanted in (("queue", 2.0, 2.0, 68.0, 70.0), ("bytes", 2.0, 3.0, 68.0, 70.0), ("again", 1.0, 2.0, 34.0, 70.0)):
+            check(f"{name} by metrics", [service.metric(metric, tenant=name) for word, metric in USAGE.items() if "queued" in word],
+                  wanted)
+        check("a drain", service.told("/drain", "POST"), (200, {"state": "draining"}))
+        wait_for(lambda: told("queue", *queue) == (4, 1, 2, 0, 1, 2, 2 ** 42), "bytes bound nothing then")
 
 
 def in_force(folder):

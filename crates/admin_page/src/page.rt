@@ -119,9 +119,13 @@ const WORDS = {
   back_end_rejected: 'rejected by the back end', invalid: 'invalid', over_budget: 'over budget',
 };
 const LEVELS = [
-  ['traces', (tenant) => tenant.undecided_rows, 'rows_limit'],
-  ['spans', (tenant) => sum(tenant, ['undecided', 'pending']), 'spans_limit'],
-  ['queue', (tenant) => tenant.queued_batches, 'queued_batches_limit'],
+  (tenant) => ['traces', tenant.undecided_rows, tenant.rows_limit, ''],
+  (tenant) => ['spans', sum(tenant, ['undecided', 'pending']), tenant.spans_limit, ''],
+  (tenant) => {
+    const batches = ['queue', tenant.queued_batches, tenant.queued_batches_limit, ''];
+    const bytes = ['queue', tenant.queued_bytes, tenant.queued_bytes_limit, ' bytes'];
+    return bytes[1] / bytes[2] > batches[1] / batches[2] ? bytes : batches;
+  },
 ];
 const PAGE = 100;
 const at = (id) => document.getElementById(id);
@@ -176,9 +180,8 @@ function fill(made, tenant, whole) {
   made.setAttribute('aria-label', said.length ? said.join(', ') : 'no spans');
 }
 
-function level(tenant, [word, held, limit]) {
-  const [now, most] = [held(tenant), tenant[limit]];
-  const text = word + ' ' + number(now) + ' of ' + number(most);
+function level([word, now, most, unit]) {
+  const text = word + ' ' + number(now) + ' of ' + number(most) + unit;
   if (5 * now <= 4 * most) return element('span', '', text);
   return element('b', '', text + ' (' + Math.floor(100 * now / most) + ' % full)');
 }
@@ -281,7 +284,7 @@ function showRows() {
     fill(made.became, tenant, tenant.ended);
     made.rates.replaceChildren(rate(tenant.rates.come) + ' in, ' + rate(tenant.rates.out) + ' out, ',
       element(tenant.rates.lost > 0 ? 'b' : 'span', '', rate(tenant.rates.lost) + ' lost'));
-    made.full.replaceChildren(...LEVELS.flatMap((it, i) => [i ? ', ' : '', level(tenant, it)]));
+    made.full.replaceChildren(...LEVELS.flatMap((it, i) => [i ? ', ' : '', level(it(tenant))]));
     made.cells.forEach((cell, word) => { cell.textContent = number(tenant[word]); });
     if (list.children[i] !== made) list.insertBefore(made, list.children[i] || null);
   });

@@ -73,6 +73,8 @@ usage_shown waiting = record {
   spans_limit = waiting.usage.spans_limit;
   queued_batches = waiting.usage.queued_batches;
   queued_batches_limit = waiting.usage.queued_batches_limit;
+  queued_bytes = waiting.usage.queued_bytes;
+  queued_bytes_limit = waiting.usage.queued_bytes_limit;
 }
 
 -- the figures of a tenant with these counters that waits so, whose back end answered this last

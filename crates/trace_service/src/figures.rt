@@ -191,6 +191,8 @@ fn usage_shown(waiting: &Waiting) -> TenantUsage
         spans_limit: usage.spans_limit,
         queued_batches: usage.queued_batches,
         queued_batches_limit: usage.queued_batches_limit,
+        queued_bytes: usage.queued_bytes,
+        queued_bytes_limit: usage.queued_bytes_limit,
     }
 }
 
