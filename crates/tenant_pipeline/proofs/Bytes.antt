@@ -6,7 +6,6 @@ use Rattle.span_batcher.specs.Batches.{Batch}
 use Rattle.tail_policy.specs.declared.note.TraceNote.{TraceNote}
 use Rattle.tail_settings.specs.SendingQueue.{most_queue_bytes}
 use Rattle.tenant_stores.specs.Part.{Part}
-use Rattle.tenant_rules.specs.Limits.{bytes_allowed}
 use Rattle.tenant_pipeline.specs.declared.pipeline.Pipeline.{Pipeline}
 use Rattle.tenant_pipeline.specs.Invariant.{AreBehind, PipelineInvariantBy}
 use Rattle.tenant_pipeline.specs.Present.{bytes_waiting}
