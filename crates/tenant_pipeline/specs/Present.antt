@@ -1,7 +1,7 @@
 -- How full a tenant is, and how full it may be (the Collector's tailsamplingprocessor keeps at most `num_traces`
--- traces, and its exporterhelper queues at most `queue_size` batches, or bytes where that is its `sizer`). Each limit is
--- the one that the rule by which something is lost compares with: `evicted` and `come` of `tenant_rules`, `is_full` of
--- `send_queue`.
+-- traces, and its exporterhelper queues at most `queue_size` batches, or bytes where that is its `sizer`). Each limit
+-- is the one that the rule by which something is lost compares with: `evicted` and `come` of `tenant_rules`, `is_full`
+-- of `send_queue`.
 use Rattle.std.specs.Prelude.{ℕ, ◌+◌, length, if◌then◌else◌}
 use Rattle.tenant_rules.specs.Sender.{payload_bytes}
 use Rattle.tenant_rules.specs.State.{State}
