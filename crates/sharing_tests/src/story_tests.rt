@@ -173,7 +173,7 @@ where
     let settings = load(alloc, SETTINGS)?;
     assert_eq!(rt;
         run_story(rt, alloc, &settings, keeps),
-        Some((56, "", true))
+        Some((61, "", true))
     );
     Ok(())
 }
