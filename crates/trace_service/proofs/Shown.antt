@@ -212,12 +212,5 @@ figures_found first shards old new now xs (Err e) came are look = tt
 
 -- ---- the service's figures
 
-pub some_behind : {T E : Type 0} (r : Result T E) (P : ServiceFigures → Type 0) (text : ServiceFigures → List ℕ) (a c : List ℕ)
-    (s : ServiceFigures) → P s → OnOk r (c ≡ a ++ text s)
-    → OnOk r ((service : ServiceFigures) × P service × (c ≡ a ++ text service))
-some_behind (Ok t) P text a c s of is = (s, of, is)
-some_behind (Err e) P text a c s of is = tt
-
-pub of_service : (admin mid : AdminData) (n m : ℕ) (s : ServiceFigures) → mid ≡ admin → n ≡ m → IsOfService mid n s → IsOfService admin m s
-of_service admin mid n m s same count of =
-    subst (λ k. IsOfService admin k s) count (subst (λ c. IsOfService c n s) same of)
+pub of_service : (admin : AdminData) (n m : ℕ) (s : ServiceFigures) → n ≡ m → IsOfService admin n s → IsOfService admin m s
+of_service admin n m s count of = subst (λ k. IsOfService admin k s) count of

@@ -1,48 +1,43 @@
 //! Who serves operators at the admin port.
 
-ghost use Rattle.std.specs.Prelude.{◌≡◌, ◌%◌, ◌++◌, Option, None, length, map, option_copied, option_map, string_bytes, IfOk, IfSome, OnOk, OnErr};
+ghost use Rattle.std.specs.Prelude.{◌≡◌, ◌++◌, length, map, option_copied, IfOk, OnErr};
 ghost use Rattle.admin_pages.specs.Figures.{tenant_of};
+ghost use Rattle.admin_pages.specs.Metrics.{tenants_text as metrics_text};
 ghost use Rattle.admin_pages.specs.Route.{route_view};
 ghost use Rattle.admin_pages.specs.Service.{service_text};
-ghost use Rattle.admin_pages.specs.declared.service.ServiceFigures.{ServiceFigures};
-ghost use Rattle.drop_ledger.specs.Ledger.{ledger_of};
-ghost use Rattle.http_edge.specs.Seen.{header_of, response_of, seen};
+ghost use Rattle.http_edge.specs.Seen.{response_of, seen};
+ghost use Rattle.http_edge.specs.declared.message.MediaType.TheVariants as media;
 ghost use Rattle.http_edge.specs.declared.message.RefusalForm.TheVariants as forms;
-ghost use Rattle.machine_hub.specs.Hub.{IsRefusedOn};
-ghost use Rattle.service_runtime.specs.LastAnswers.{IsAnswered};
+ghost use Rattle.service_runtime.specs.Notice.{reply_of};
 ghost use Rattle.service_runtime.specs.Receiving.{IsTalk};
-ghost use Rattle.service_runtime.specs.Token.{is_let_in};
 ghost use Rattle.service_runtime.specs.declared.desk.Asked.{Asked as AskedCode};
 ghost use Rattle.tenant_registry.specs.Changed.{TellsAdding};
-ghost use Rattle.tenant_registry.specs.Roster.{entry_of};
-ghost use Rattle.trace_service.specs.Shown.{AreFigures, AreLooked, IsKnown, IsLooked, IsNobody, IsOfService, IsSeen, IsShown, OnlyLooks, LooksMore, OnlyLooksIf, ShowsMetrics, ShowsReply, ShowsTenant, ShowsTenants, Tells, TellsGoing, TellsReadiness, admin_of, drained_reply, is_for_figures, may_look, page_reply, refused_reply, told_of, usage_shown};
+ghost use Rattle.trace_service.specs.Shown.{IsOfService, IsShown, OnlyLooks, OnlyLooksIf, ShowsMetrics, ShowsReply, TellsGoing, TellsReadiness, admin_of, drained_reply, is_for_figures, may_look, page_reply, refused_reply};
 
 use crate::context::WorkerContext;
+use crate::figures::find;
 use crate::naming::Naming;
 use crate::shared::ServiceLimits;
 use admin_page::PAGE;
 use admin_pages::{
-    AdminRoute, LastAnswer, ServiceFigures, TenantFigures, TenantUsage, admin_route, put_service,
-    put_settled_tenant, put_tenant_metrics, put_tenants, read_report,
+    AdminRoute, ServiceFigures, TenantFigures, admin_route, put_service, put_tenant_metrics,
 };
 use export_edge::Beat;
-use http_edge::{EdgeFault, Handler, Header, HttpMessage, MediaType, RefusalForm, Reply, serve};
+use http_edge::{EdgeFault, Handler, HttpMessage, MediaType, RefusalForm, Reply, serve};
 use http_line::StreamLine;
 use otlp_front::path;
 use service_runtime::notices::{notice, other_method, shown, unknown};
 use service_runtime::{
-    AdminPort, Client, Entrance, Signals, Visit, is_let_in, linger, refuse_overrun, resident_bytes,
+    AdminDesk, AdminPort, Client, Entrance, Signals, Visit, is_let_in, linger, refuse_overrun,
+    resident_bytes,
 };
-use shared_hub::HubFault;
 use std::alloc::{AllocError, Global};
-use std::str;
-use std::sync::Wait;
+use std::sync::{Mutex, Wait};
 use std::thread::Threads;
 use std::time::{Clock, Duration};
-use tenant_registry::Present;
 use tenant_registry::changes::{added, retired};
 use tenant_registry::replies::without_memory;
-use tenant_shard::{Outcome, Waiting};
+use tenant_registry::{InForce, SettingsNaming};
 
 /// For so many seconds is waited until a line of the input is answered.
 const LONGEST_ANSWER: u64 = 5;
@@ -81,98 +76,84 @@ impl<'c, 'h, J: Naming, R: Wait + Clock> Handler for AdminHandler<'c, 'h, J, R> 
     /// Who isn't let in is refused before the body comes.
     fn reply_to_head(&self, head: &HttpMessage) -> Option<Reply> {
         let asked = admin_route(head.method.as_str(), path(head.target.as_slice()));
-        if self.is_let_in(head.headers.as_slice(), &asked) {
+        if is_let_in(self.port.token, head.headers.as_slice(), &asked) {
             return None;
         }
-        match not_let_in(self.context.alloc(), self.port.token) {
+        match not_let_in(self.context.alloc, self.port.token) {
             Ok(reply) => Some(reply),
-            Err(AllocError) => Some(without_memory(self.context.alloc())),
+            Err(AllocError) => Some(without_memory(self.context.alloc)),
         }
     }
 
     fn handle<T: Threads + Sync>(&mut self, _rt: &T, message: HttpMessage) -> Reply {
-        match self.answer(message) {
+        match self.answer(&message) {
             Ok(reply) => reply,
-            Err(AllocError) => without_memory(self.context.alloc()),
+            Err(AllocError) => without_memory(self.context.alloc),
         }
     }
 }
 
 impl<'c, 'h, J: Naming, R: Wait + Clock> AdminHandler<'c, 'h, J, R> {
-    fn signals(&self) -> &'h Signals {
-        self.context.signals()
-    }
-
     /// Serves the next who comes in at this door, unless the work is over. Pauses where none does.
     fn serve_next<T: Threads + Sync>(&mut self, rt: &T, door: &Entrance<'h>, buffer: &mut Vec<u8>)
         ensures looks { OnlyLooks (length J.slots) self.old.context.now.caller
             self.new.context.now.caller }
         ensures lent { self.new.context.ghost_name ≡ self.old.context.ghost_name }
     {
-        let Some(client) = door.admit(self.context.rt(), self.signals()) else {
-            self.context.beat().pause();
+        let context = &mut *self.context;
+        let signals = context.beat.signals();
+        let Some(client) = door.admit(context.rt, signals) else {
+            context.beat.with_short_pauses().pause();
             return;
         };
-        if self.signals().is_over() {
+        if signals.is_over() {
             return;
         }
-        self.serve(rt, &client, buffer);
+        self.serve(rt, client, buffer);
     }
 
     /// Serves a client to its end.
-    fn serve<T: Threads + Sync>(&mut self, rt: &T, client: &Client, buffer: &mut Vec<u8>)
+    fn serve<T: Threads + Sync>(&mut self, rt: &T, client: Client<'h>, buffer: &mut Vec<u8>)
         ensures { IsTalk forms.Json ⟦<AdminHandler<'c, 'h, J, R> as Handler>⟧.answers self.old
             self.new }
     {
-        let mut beat = self.context.beat();
-        let mut line = StreamLine::new(Visit::new(self.context.rt(), client));
-        match serve(rt, self.context.alloc(), &mut line, self, buffer) {
+        let context = &mut *self.context;
+        let alloc = context.alloc;
+        let mut beat = context.beat.with_short_pauses();
+        let mut line = StreamLine::new(Visit::new(context.rt, &client));
+        match serve(rt, alloc, &mut line, self, buffer) {
             Ok(()) | Err(EdgeFault::OutOfMemory) => linger(&client.stream, &mut beat),
-            Err(_) => refuse_overrun(client, &mut beat),
+            Err(_) => refuse_overrun(&client, &mut beat),
         }
     }
 
     /// The answer to a message.
-    fn answer(&mut self, message: HttpMessage) -> Result<Reply, AllocError>
-        ensures shown { IfOk result (λ reply. IsShown J.first (length self.old.context.now.hub.now)
-            (admin_of self.old.port self.old.limits self.old.lane_capacity) (seen message)
-            self.old.context.now.caller self.new.context.now.caller (response_of reply)) }
+    fn answer(&mut self, message: &HttpMessage) -> Result<Reply, AllocError>
+        ensures shown { IfOk result (λ r. IsShown J.first (length self.old.context.now.hub.now)
+            (admin_of self.old.port self.old.limits self.old.lane_capacity) (seen message.now)
+            self.old.context.now.caller self.new.context.now.caller (response_of r)) }
         ensures looks { OnErr result (OnlyLooksIf (may_look
-            (admin_of self.old.port self.old.limits self.old.lane_capacity) (seen message))
+            (admin_of self.old.port self.old.limits self.old.lane_capacity) (seen message.now))
             (length self.old.context.now.hub.now) self.old.context.now.caller
             self.new.context.now.caller) }
         ensures same { admin_of self.new.port self.new.limits self.new.lane_capacity
             ≡ admin_of self.old.port self.old.limits self.old.lane_capacity }
         ensures lent { self.new.context.ghost_name ≡ self.old.context.ghost_name }
     {
-        let HttpMessage {
-            method,
-            target,
-            headers,
-            body,
-        } = message;
-        let asked = admin_route(method.as_str(), path(target.as_slice()));
-        if self.is_let_in(headers.as_slice(), &asked) {
-            self.show(asked, body)
+        let asked = admin_route(message.method.as_str(), path(message.target.as_slice()));
+        let document = message.body.as_slice();
+        if is_let_in(self.port.token, message.headers.as_slice(), &asked) {
+            self.show(asked, document)
         } else {
-            not_let_in(self.context.alloc(), self.port.token)
+            not_let_in(self.context.alloc, self.port.token)
         }
     }
 
-    /// Whether a message with these fields is let in there: it has the token that is wanted, and where none is it isn't
-    /// a page that asks for a change.
-    fn is_let_in(&self, headers: &[Header], asked: &AdminRoute<'_>) -> bool
-        ensures { result ≡ is_let_in (option_copied self.now.port.now.token)
-            (map header_of headers.now) (route_view asked.now) }
-    {
-        is_let_in(self.port.token, headers, asked)
-    }
-
     /// What is asked for, of who is let in. A tenant that is to come has this document.
-    fn show(&mut self, asked: AdminRoute<'_>, document: Vec<u8>) -> Result<Reply, AllocError>
+    fn show(&mut self, asked: AdminRoute<'_>, document: &[u8]) -> Result<Reply, AllocError>
         ensures shown { IfOk result (ShowsReply J.first (length self.old.context.now.hub.now)
             (admin_of self.old.port self.old.limits self.old.lane_capacity) (route_view asked.entry)
-            document.items self.old.context.now.caller self.new.context.now.caller) }
+            document.now self.old.context.now.caller self.new.context.now.caller) }
         ensures looks { OnErr result (OnlyLooksIf (is_for_figures (route_view asked.entry))
             (length self.old.context.now.hub.now) self.old.context.now.caller
             self.new.context.now.caller) }
@@ -180,131 +161,22 @@ impl<'c, 'h, J: Naming, R: Wait + Clock> AdminHandler<'c, 'h, J, R> {
             ≡ admin_of self.old.port self.old.limits self.old.lane_capacity }
         ensures lent { self.new.context.ghost_name ≡ self.old.context.ghost_name }
     {
+        let context = &mut *self.context;
+        let (rt, alloc, desk) = (context.rt, context.alloc, self.port.desk);
+        let signals = context.beat.signals();
         match asked {
-            AdminRoute::Page => page(self.context.alloc()),
+            AdminRoute::Page => page(alloc),
             AdminRoute::Metrics => self.metrics(),
-            AdminRoute::Health => notice(self.context.alloc(), 200, "state", "ok"),
-            AdminRoute::Readiness => self.readiness(),
-            AdminRoute::Drain => self.drain(),
-            AdminRoute::Tenants => self.tenants(),
-            AdminRoute::Add => self.add(document),
-            AdminRoute::Tenant(name) => self.tenant(name),
-            AdminRoute::Retire(name) => self.retire(name),
-            AdminRoute::NoSuchPath => notice(self.context.alloc(), 404, "error", "no such path"),
-            AdminRoute::OtherMethod(methods) => other_method(self.context.alloc(), methods),
+            AdminRoute::Health => notice(alloc, 200, "state", "ok"),
+            AdminRoute::Readiness => readiness(alloc, is_draining(rt, desk, signals)),
+            AdminRoute::Drain => drain(rt, alloc, desk, signals),
+            AdminRoute::Tenants => self.context.tenants_shown(),
+            AdminRoute::Add => ask_to_come(rt, alloc, desk, document),
+            AdminRoute::Tenant(name) => self.context.tenant_shown(name),
+            AdminRoute::Retire(name) => ask_to_go(rt, alloc, self.context.settings, desk, name),
+            AdminRoute::NoSuchPath => notice(alloc, 404, "error", "no such path"),
+            AdminRoute::OtherMethod(methods) => other_method(alloc, methods),
         }
-    }
-
-    /// Whether spans are taken.
-    fn readiness(&self) -> Result<Reply, AllocError>
-        ensures { IfOk result (λ reply. TellsReadiness (response_of reply)) }
-    {
-        let alloc = self.context.alloc();
-        if self.is_draining() {
-            notice(alloc, 503, "state", "draining")
-        } else {
-            notice(alloc, 200, "state", "ready")
-        }
-    }
-
-    fn is_draining(&self) -> bool {
-        self.port.desk.is_ended(self.context.rt()) || self.signals().is_closing()
-    }
-
-    /// All figures of the tenants that are present, in the order of their numbers. Of a tenant that goes meanwhile
-    /// there are none.
-    fn figures(&mut self) -> Result<Vec<TenantFigures>, AllocError>
-        ensures looked { IfOk result (λ figures.
-            AreFigures J.first (length self.old.context.now.hub.now) self.old.context.now.caller
-            self.new.context.now.caller (map tenant_of figures.items)) }
-        ensures looks { OnErr result (OnlyLooks (length self.old.context.now.hub.now)
-            self.old.context.now.caller self.new.context.now.caller) }
-        ensures same { admin_of self.new.port self.new.limits self.new.lane_capacity
-            ≡ admin_of self.old.port self.old.limits self.old.lane_capacity }
-        ensures lent { self.new.context.ghost_name ≡ self.old.context.ghost_name }
-    {
-        let tenants = self.context.tenants()?;
-        self.figures_of(tenants.as_slice())
-    }
-
-    /// The figures of these tenants.
-    fn figures_of(&mut self, tenants: &[Present]) -> Result<Vec<TenantFigures>, AllocError>
-        ensures looked { IfOk result (λ figures. AreLooked (length self.old.context.now.hub.now)
-            self.old.context.now.caller (map entry_of tenants.now) (map tenant_of figures.items)
-            self.new.context.now.caller) }
-        ensures looks { OnErr result (OnlyLooks (length self.old.context.now.hub.now)
-            self.old.context.now.caller self.new.context.now.caller) }
-        ensures same { admin_of self.new.port self.new.limits self.new.lane_capacity
-            ≡ admin_of self.old.port self.old.limits self.old.lane_capacity }
-        ensures lent { self.new.context.ghost_name ≡ self.old.context.ghost_name }
-    {
-        let mut figures = Vec::new(self.context.alloc());
-        for tenant in tenants {
-            self.add_figures(tenant, &mut figures)?;
-        }
-        Ok(figures)
-    }
-
-    /// Appends the figures of a tenant, unless it has gone.
-    fn add_figures(
-        &mut self,
-        tenant: &Present,
-        figures: &mut Vec<TenantFigures>,
-    ) -> Result<(), AllocError>
-        ensures looked { OnOk result (LooksMore (length self.old.context.now.hub.now) tenant.now
-            self.old.context.now.caller self.new.context.now.caller
-            (map tenant_of figures.old.items) (map tenant_of figures.new.items)) }
-        ensures looks { OnErr result (OnlyLooks (length self.old.context.now.hub.now)
-            self.old.context.now.caller self.new.context.now.caller) }
-        ensures hub { self.new.context.now.hub ≡ self.old.context.now.hub }
-        ensures same { admin_of self.new.port self.new.limits self.new.lane_capacity
-            ≡ admin_of self.old.port self.old.limits self.old.lane_capacity }
-        ensures lent { self.new.context.ghost_name ≡ self.old.context.ghost_name }
-    {
-        let counters = self.counters(tenant.number)?;
-        let waiting = self.waiting(tenant.number);
-        let answer = self.last_answer(tenant.number);
-        push_figures(figures, tenant, counters, waiting, answer)
-    }
-
-    /// The counters of the tenant of this number. None where it has gone.
-    fn counters(&mut self, tenant: u32) -> Result<Option<[u64; 14]>, AllocError>
-        ensures looked { IfOk result (λ counters. IsLooked self.old.context.now.caller
-            self.new.context.now.caller (length self.old.context.now.hub.now) tenant
-            (option_map ledger_of counters)) }
-        ensures refused { OnErr result (IsRefusedOn self.old.context.now.caller
-            self.new.context.now.caller (tenant % length self.old.context.now.hub.now)) }
-        ensures hub { self.new.context.now.hub ≡ self.old.context.now.hub }
-        ensures same { admin_of self.new.port self.new.limits self.new.lane_capacity
-            ≡ admin_of self.old.port self.old.limits self.old.lane_capacity }
-        ensures lent { self.new.context.ghost_name ≡ self.old.context.ghost_name }
-    {
-        match self.context.look(tenant) {
-            Ok(outcome) => Ok(told_counters(&outcome)),
-            Err(HubFault::OutOfMemory) => Err(AllocError),
-            Err(HubFault::Behind { .. } | HubFault::OtherEntry { .. }) => unreachable!(),
-        }
-    }
-
-    /// How full the tenant of this number is and may be, and when something of it is due next, in milliseconds since
-    /// the start, after all that this thread had asked of its shard.
-    fn waiting(&mut self, tenant: u32) -> Waiting
-        ensures seen { IsSeen self.old.context.now.caller (length self.old.context.now.hub.now)
-            tenant result }
-        ensures caller { self.new.context.now.caller ≡ self.old.context.now.caller }
-        ensures hub { self.new.context.now.hub ≡ self.old.context.now.hub }
-        ensures same { admin_of self.new.port self.new.limits self.new.lane_capacity
-            ≡ admin_of self.old.port self.old.limits self.old.lane_capacity }
-        ensures lent { self.new.context.ghost_name ≡ self.old.context.ghost_name }
-    {
-        self.context.waiting(tenant)
-    }
-
-    /// What the back end of the tenant of this number answered last.
-    fn last_answer(&self, tenant: u32) -> Option<LastAnswer>
-        ensures { IsAnswered tenant result }
-    {
-        self.signals().last_answers().answer_of(tenant)
     }
 
     /// All figures, for a scraper.
@@ -319,26 +191,9 @@ impl<'c, 'h, J: Naming, R: Wait + Clock> AdminHandler<'c, 'h, J, R> {
             ≡ admin_of self.old.port self.old.limits self.old.lane_capacity }
         ensures lent { self.new.context.ghost_name ≡ self.old.context.ghost_name }
     {
-        let alloc = self.context.alloc();
-        let figures = self.figures()?;
-        let mut text = Vec::new(alloc);
-        put_tenant_metrics(alloc, &mut text, figures.as_slice())?;
-        self.put_service(&mut text, figures.len() as u64)?;
-        Ok(shown(200, MediaType::Metrics, text))
-    }
-
-    /// Appends the figures of the whole service.
-    fn put_service(&mut self, text: &mut Vec<u8>, tenants: u64) -> Result<(), AllocError>
-        ensures behind { OnOk result ((service : ServiceFigures)
-            × IsOfService (admin_of self.old.port self.old.limits self.old.lane_capacity) tenants
-            service × (text.new.items ≡ text.old.items ++ service_text service)) }
-        ensures caller { self.new.context.now.caller ≡ self.old.context.now.caller }
-        ensures same { admin_of self.new.port self.new.limits self.new.lane_capacity
-            ≡ admin_of self.old.port self.old.limits self.old.lane_capacity }
-        ensures lent { self.new.context.ghost_name ≡ self.old.context.ghost_name }
-    {
-        let figures = self.service_figures(tenants);
-        put_service(self.context.alloc(), text, &figures)
+        let figures = self.context.figures()?;
+        let service = self.service_figures(figures.len() as u64);
+        metrics_reply(self.context.alloc, figures.as_slice(), &service)
     }
 
     /// The figures of the whole service, where so many tenants are present.
@@ -350,134 +205,25 @@ impl<'c, 'h, J: Naming, R: Wait + Clock> AdminHandler<'c, 'h, J, R> {
             ≡ admin_of self.old.port self.old.limits self.old.lane_capacity }
         ensures lent { self.new.context.ghost_name ≡ self.old.context.ghost_name }
     {
-        let uptime = self.context.uptime() / 1000;
+        let context = &mut *self.context;
+        let rt = context.rt;
+        let uptime = context.beat.now() / 1000;
+        let signals = context.beat.signals();
         let resident_bytes = match self.port.status {
-            Some(status) => resident_bytes(self.context.rt(), status),
+            Some(status) => resident_bytes(rt, status),
             None => None,
         };
         ServiceFigures {
             version: self.port.version,
             uptime,
             tenants,
-            is_draining: self.is_draining(),
+            is_draining: is_draining(rt, self.port.desk, signals),
             resident_bytes,
             receivers: u64::from(self.limits.receivers),
             senders: u64::from(self.limits.senders),
             lane_capacity: self.lane_capacity as u64,
-            counts: self.signals().tally().counts(),
+            counts: signals.tally().counts(),
         }
-    }
-
-    /// All tenants' figures.
-    fn tenants(&mut self) -> Result<Reply, AllocError>
-        ensures shown { IfOk result (λ reply. ShowsTenants J.first
-            (length self.old.context.now.hub.now) self.old.context.now.caller
-            self.new.context.now.caller (response_of reply)) }
-        ensures looks { OnErr result (OnlyLooks (length self.old.context.now.hub.now)
-            self.old.context.now.caller self.new.context.now.caller) }
-        ensures same { admin_of self.new.port self.new.limits self.new.lane_capacity
-            ≡ admin_of self.old.port self.old.limits self.old.lane_capacity }
-        ensures lent { self.new.context.ghost_name ≡ self.old.context.ghost_name }
-    {
-        let alloc = self.context.alloc();
-        let figures = self.figures()?;
-        let mut text = Vec::new(alloc);
-        put_tenants(alloc, &mut text, figures.as_slice())?;
-        Ok(shown(200, MediaType::Json, text))
-    }
-
-    /// The figures of the tenant of this name, and its settings.
-    fn tenant(&mut self, name: &[u8]) -> Result<Reply, AllocError>
-        ensures shown { IfOk result (λ reply. ShowsTenant J.first
-            (length self.old.context.now.hub.now) name.now self.old.context.now.caller
-            self.new.context.now.caller (response_of reply)) }
-        ensures looks { OnErr result (OnlyLooks (length self.old.context.now.hub.now)
-            self.old.context.now.caller self.new.context.now.caller) }
-        ensures same { admin_of self.new.port self.new.limits self.new.lane_capacity
-            ≡ admin_of self.old.port self.old.limits self.old.lane_capacity }
-        ensures lent { self.new.context.ghost_name ≡ self.old.context.ghost_name }
-    {
-        let alloc = self.context.alloc();
-        let Some((name, number)) = self.find(name) else {
-            return unknown(alloc);
-        };
-        let Some(section) = self.context.section(number)? else {
-            return unknown(alloc);
-        };
-        let Some(counters) = self.counters(number)? else {
-            return unknown(alloc);
-        };
-        let waiting = self.waiting(number);
-        let figures = TenantFigures {
-            name: String::from_str(alloc, name)?,
-            counters,
-            usage: usage_shown(&waiting),
-            ready: waiting.tenant_ready,
-            back_end: self.last_answer(number),
-        };
-        let mut text = Vec::new(alloc);
-        put_settled_tenant(alloc, &mut text, &figures, &section)?;
-        Ok(shown(200, MediaType::Json, text))
-    }
-
-    /// The number of the tenant of this name, and its name as a text.
-    fn find<'n>(&self, name: &'n [u8]) -> Option<(&'n str, u32)>
-        ensures name { IfSome result (λ found. found.0.now ≡ name.entry.now) }
-        ensures known { IfSome result (λ found. IsKnown J.first name.entry.now found.1) }
-        ensures nobody { result ≡ None → IsNobody J.first name.entry.now }
-    {
-        match str::from_utf8(name) {
-            Ok(name) => {
-                let number = self.context.number(name)?;
-                Some((name, number))
-            }
-            Err(_) => None,
-        }
-    }
-
-    /// Ends the input.
-    fn drain(&self) -> Result<Reply, AllocError>
-        ensures { IfOk result (λ reply. response_of reply ≡ drained_reply) }
-    {
-        self.signals().ask_end();
-        self.port.desk.end(self.context.rt());
-        notice(self.context.alloc(), 200, "state", "draining")
-    }
-
-    /// Asks that the tenant of a document comes.
-    fn add(&self, document: Vec<u8>) -> Result<Reply, AllocError>
-        ensures { IfOk result (λ reply. (asked : AskedCode) × TellsAdding asked document.items
-            (response_of reply)) }
-    {
-        let alloc = self.context.alloc();
-        let line = Vec::from_slice(alloc, b"add posted\n")?;
-        let copy = Vec::from_slice(alloc, document.as_slice())?;
-        let asked = self.port.desk.ask(
-            self.context.rt(),
-            line,
-            copy,
-            Duration::from_secs(LONGEST_ANSWER),
-        );
-        added(alloc, asked, document.as_slice())
-    }
-
-    /// Asks that the tenant of this name goes.
-    fn retire(&self, name: &[u8]) -> Result<Reply, AllocError>
-        ensures { IfOk result (λ reply. TellsGoing J.first name.now (response_of reply)) }
-    {
-        let alloc = self.context.alloc();
-        let Some((name, _)) = self.find(name) else {
-            return unknown(alloc);
-        };
-        let line = format!(in alloc; "retire {name}\n")?.into_bytes();
-        let nothing = Vec::new(alloc);
-        let asked = self.port.desk.ask(
-            self.context.rt(),
-            line,
-            nothing,
-            Duration::from_secs(LONGEST_ANSWER),
-        );
-        retired(alloc, asked, name)
     }
 }
 
@@ -496,7 +242,8 @@ where
     ensures lent { admin.new.context.ghost_name ≡ admin.old.context.ghost_name }
 {
     'clients: for _ in rt.forever() {
-        if admin.signals().is_over() {
+        let context = &mut *admin.context;
+        if context.beat.signals().is_over() {
             return;
         }
         admin.serve_next(rt, door, buffer);
@@ -504,57 +251,84 @@ where
     unreachable!()
 }
 
-/// The counters that an outcome tells. None where it tells none.
-fn told_counters(outcome: &Outcome) -> Option<[u64; 14]>
-    ensures { Tells outcome.now (option_map ledger_of result) }
+/// The reply that shows these figures of tenants, and those of the service.
+fn metrics_reply(
+    alloc: Global,
+    figures: &[TenantFigures],
+    service: &ServiceFigures,
+) -> Result<Reply, AllocError>
+    ensures { IfOk result (λ reply. response_of reply ≡ reply_of 200 media.Metrics
+        (metrics_text (map tenant_of figures.now) ++ service_text service.now)) }
 {
-    match outcome {
-        Outcome::Report(_, counters) => read_report(counters.as_slice()),
-        _ => None,
+    let mut text = Vec::new(alloc);
+    put_tenant_metrics(alloc, &mut text, figures)?;
+    put_service(alloc, &mut text, service)?;
+    Ok(shown(200, MediaType::Metrics, text))
+}
+
+/// Whether the end was asked for, or has come.
+fn is_draining<R: Wait>(rt: &R, desk: &AdminDesk, signals: &Signals) -> bool {
+    desk.is_ended(rt) || signals.is_closing()
+}
+
+/// Whether spans are taken.
+fn readiness(alloc: Global, is_draining: bool) -> Result<Reply, AllocError>
+    ensures { IfOk result (λ reply. TellsReadiness (response_of reply)) }
+{
+    if is_draining {
+        notice(alloc, 503, "state", "draining")
+    } else {
+        notice(alloc, 200, "state", "ready")
     }
 }
 
-/// Appends the figures of a tenant, where there are any.
-fn push_figures(
-    figures: &mut Vec<TenantFigures>,
-    tenant: &Present,
-    counters: Option<[u64; 14]>,
-    waiting: Waiting,
-    answer: Option<LastAnswer>,
-) -> Result<(), AllocError>
-    ensures { OnOk result (map tenant_of figures.new.items ≡ told_of
-        (map tenant_of figures.old.items) (string_bytes tenant.now.name)
-        (option_map ledger_of counters) waiting answer) }
+/// Ends the input.
+fn drain<R: Wait>(
+    rt: &R,
+    alloc: Global,
+    desk: &AdminDesk,
+    signals: &Signals,
+) -> Result<Reply, AllocError>
+    ensures { IfOk result (λ reply. response_of reply ≡ drained_reply) }
 {
-    let Some(counters) = counters else {
-        return Ok(());
+    signals.ask_end();
+    desk.end(rt);
+    notice(alloc, 200, "state", "draining")
+}
+
+/// Asks that the tenant of a document comes.
+fn ask_to_come<R: Wait + Clock>(
+    rt: &R,
+    alloc: Global,
+    desk: &AdminDesk,
+    document: &[u8],
+) -> Result<Reply, AllocError>
+    ensures { IfOk result (λ reply. (asked : AskedCode) × TellsAdding asked document.now
+        (response_of reply)) }
+{
+    let line = Vec::from_slice(alloc, b"add posted\n")?;
+    let copy = Vec::from_slice(alloc, document)?;
+    let asked = desk.ask(rt, line, copy, Duration::from_secs(LONGEST_ANSWER));
+    added(alloc, asked, document)
+}
+
+/// Asks that the tenant of this name goes.
+fn ask_to_go<J: SettingsNaming, R: Wait + Clock>(
+    rt: &R,
+    alloc: Global,
+    settings: &Mutex<InForce<J>>,
+    desk: &AdminDesk,
+    name: &[u8],
+) -> Result<Reply, AllocError>
+    ensures { IfOk result (λ reply. TellsGoing J.first name.now (response_of reply)) }
+{
+    let Some((name, _)) = find(rt, settings, name) else {
+        return unknown(alloc);
     };
-    let name = tenant.name.clone()?;
-    figures.push(TenantFigures {
-        name,
-        counters,
-        usage: usage_shown(&waiting),
-        ready: waiting.tenant_ready,
-        back_end: answer,
-    })?;
-    Ok(())
-}
-
-/// How full a tenant is and may be, as its shard says.
-fn usage_shown(waiting: &Waiting) -> TenantUsage
-    ensures { result ≡ usage_shown waiting.now }
-{
-    let usage = &waiting.usage;
-    TenantUsage {
-        rows: usage.rows,
-        undecided_rows: usage.undecided_rows,
-        rows_limit: usage.rows_limit,
-        spans_limit: usage.spans_limit,
-        queued_batches: usage.queued_batches,
-        queued_batches_limit: usage.queued_batches_limit,
-        queued_bytes: usage.queued_bytes,
-        queued_bytes_limit: usage.queued_bytes_limit,
-    }
+    let line = format!(in alloc; "retire {name}\n")?.into_bytes();
+    let nothing = Vec::new(alloc);
+    let asked = desk.ask(rt, line, nothing, Duration::from_secs(LONGEST_ANSWER));
+    retired(alloc, asked, name)
 }
 
 /// The page to look at.

@@ -7,6 +7,7 @@ ghost use Rattle.shared_hub.specs.Logs.{CallerState};
 ghost use Rattle.trace_service.specs.Assignment.{place_of, places};
 ghost use Rattle.trace_service.specs.Jobs.{AreThreads, IsThread};
 
+use crate::context::WorkerContext;
 use crate::naming::Naming;
 use crate::shared::Shared;
 use crate::workers::{Role, Worker};
@@ -46,7 +47,8 @@ pub(crate) fn assign_threads<'h, J: Naming, R: Wait + Clock>(
         };
         let (role, shard) = role_of(workers.len(), shards, senders, admins);
         let buffer = buffer_of(shared.alloc, role)?;
-        workers.push(Worker::new(role, shared.context(caller, shard), seat, buffer))?;
+        let context = WorkerContext::of_thread(shared, caller, shard);
+        workers.push(Worker::new(role, context, seat, buffer))?;
     }
     Ok(workers)
 }

@@ -6,7 +6,7 @@ ghost use Rattle.trace_service.specs.Commands.{step_of};
 use tenant_shard::Step;
 
 /// A step that a tenant is to make.
-#[derive(Clone, Copy, PartialEq, Eq, Debug)]
+#[derive(Clone, Copy)]
 pub(crate) enum Chore {
     /// Says its counters.
     Report,

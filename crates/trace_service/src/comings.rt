@@ -9,7 +9,7 @@ ghost use Rattle.trace_service.specs.Commands.{left_by, stays};
 ghost use Rattle.trace_service.specs.Control.{Adds, RetiresNamed, standing_of, standing_with};
 
 use crate::chore::Chore;
-use crate::control::Control;
+use crate::control::{Control, line_again};
 use crate::naming::Naming;
 use crate::reports::CommandReply;
 use export_edge::Beat;
@@ -48,7 +48,9 @@ where
         match self.let_in(roster, path) {
             Ok(line) => write_text(output, line.as_slice(), lost),
             Err(NotAdded::Refused(number)) => {
-                let line = self.line_again(CommandReply::NotAdded(number));
+                let reply = CommandReply::NotAdded(number);
+                let context = &mut self.context;
+                let line = line_again(self.rt, self.alloc, &mut context.teller, &self.beat, reply);
                 write_text(output, line.as_slice(), lost);
             }
             Err(NotAdded::OutOfMemory) => {
@@ -106,10 +108,12 @@ where
                 Err(NotAdded::Refused(reason))
             }
             Ok(_) => {
-                let line = self.line_again(CommandReply::Added {
+                let reply = CommandReply::Added {
                     name: name.as_str(),
                     number,
-                });
+                };
+                let context = &mut self.context;
+                let line = line_again(self.rt, self.alloc, &mut context.teller, &self.beat, reply);
                 roster.push(number, name);
                 Ok(line)
             }
@@ -144,10 +148,12 @@ where
         self.make(number, Chore::Drain);
         self.await_tenant(number, has_admin_port);
         let outcome = self.make(number, Chore::Retire);
-        let line = self.line_again(CommandReply::Outcome {
+        let reply = CommandReply::Outcome {
             name: tenant.name.as_str(),
             outcome: &outcome,
-        });
+        };
+        let context = &mut self.context;
+        let line = line_again(self.rt, self.alloc, &mut context.teller, &self.beat, reply);
         let_go(&mut self.registrar, roster, number, &outcome);
         write_text(output, line.as_slice(), lost);
     }
@@ -166,7 +172,7 @@ where
             if self.context.is_empty(tenant) {
                 return;
             }
-            if has_admin_port && self.context.signals().is_end_asked() {
+            if has_admin_port && self.beat.signals().is_end_asked() {
                 return;
             }
             self.beat.with_short_pauses().pause();

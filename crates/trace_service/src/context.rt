@@ -4,13 +4,14 @@ ghost use Rattle.std.specs.Prelude.{◌≡◌, ◌<◌, ◌≤◌, length, IfOk}
 ghost use Rattle.machine_hub.specs.Hub.{slots_of};
 ghost use Rattle.trace_service.specs.Work.{turned_of};
 
+use crate::lookup::{destination_of, refusal_of};
 use crate::naming::Naming;
 use crate::post::post_body;
+use crate::shared::Shared;
 use bytes::Bytes;
 use export_edge::{AnswerRefused, AnswerSink, Beat, JobSource, TurnResult};
 use http_edge::{Handler, HttpMessage, RefusalForm, Reply};
 use job_lane::Job;
-use otlp_front::RouteRefusal;
 use send_retry::Answer;
 use service_runtime::{BodyClaim, ServiceBeat, Signals, Teller};
 use shared_hub::{Caller, HubFault, SharedHub};
@@ -21,25 +22,25 @@ use std::thread::Threads;
 use std::time::Clock;
 use tail_settings::Section;
 use tenant_registry::replies::{is_without_memory, refused, without_memory};
-use tenant_registry::{Destination, InForce, Present};
+use tenant_registry::{Destination, InForce};
 use tenant_shard::{Outcome, Step, Waiting};
 
 /// One thread's place at the shards.
 #[derive(Drop)]
 pub(crate) struct WorkerContext<'h, J: Naming, R> {
-    rt: &'h R,
-    alloc: Global,
-    settings: &'h Mutex<InForce<J>>,
+    pub rt: &'h R,
+    pub alloc: Global,
+    pub settings: &'h Mutex<InForce<J>>,
     // In how many threads notes are made of a body.
     parts: u32,
-    hub: &'h SharedHub,
+    pub hub: &'h SharedHub,
     caller: Caller,
-    // Whose turns it makes.
-    shard: usize,
-    beat: ServiceBeat<'h, R>,
-    teller: Teller<'h, R>,
-    // For the body of the message that comes, as a receiver.
-    claim: BodyClaim<'h>,
+    /// Whose turns it makes.
+    pub shard: usize,
+    pub beat: ServiceBeat<'h, R>,
+    pub teller: Teller<'h, R>,
+    /// For the body of the message that comes, as a receiver.
+    pub claim: BodyClaim<'h>,
     of: PhantomData<J>,
     ghost hub_is: { hub.now ≡ J.slots },
     ghost ours: { slots_of caller ≡ J.slots },
@@ -48,50 +49,40 @@ pub(crate) struct WorkerContext<'h, J: Naming, R> {
 }
 
 impl<'h, J: Naming, R: Wait + Clock> WorkerContext<'h, J, R> {
-    ghost use Rattle.std.specs.Prelude.{◌≡◌, ◌<◌, ◌≤◌, ◌%◌, ℕ, length, map, Option, option_map, IfOk, IfErr, OnErr};
+    ghost use Rattle.std.specs.Prelude.{◌≡◌, ◌<◌, ◌≤◌, ◌%◌, length, Option, IfOk, IfErr, OnErr};
     ghost use Rattle.machine_hub.specs.declared.receipt.Receipt.{Receipt};
     ghost use Rattle.machine_hub.specs.declared.told.Told.{Told};
-    ghost use Rattle.otlp_front.specs.Route.{names_in};
-    ghost use Rattle.tail_settings.specs.Section.{section_view};
-    ghost use Rattle.tail_settings.specs.Settings.{SettingsData, number_of, section_at};
-    ghost use Rattle.tenant_registry.specs.InForce.{CameOf};
-    ghost use Rattle.tenant_registry.specs.Roster.{entry_of};
     ghost use Rattle.tenant_shard.specs.declared.step.Step.TheVariants as steps;
     ghost use Rattle.tenant_shard.specs.declared.waiting.Waiting.{Waiting};
     ghost use Rattle.machine_hub.specs.Hub.{IsRefusedOn};
     ghost use Rattle.shared_hub.specs.Logs.{IsStepOn, IsEmptyOn, IsLookOn};
     ghost use Rattle.shared_hub.specs.declared.fault.HubFault.TheVariants as faults;
 
-    /// A place at these shards, for who makes turns of this one.
-    pub fn new(
-        rt: &'h R,
-        alloc: Global,
-        settings: &'h Mutex<InForce<J>>,
-        parts: u32,
-        hub: &'h SharedHub,
+    /// The place of the thread with this caller, which makes turns of this shard.
+    pub fn of_thread(
+        shared: &Shared<'h, J, R>,
         caller: Caller,
         shard: usize,
-        beat: ServiceBeat<'h, R>,
     ) -> WorkerContext<'h, J, R>
-        requires parts { (0 < parts) × (parts ≤ 16) }
-        requires hub { hub.now ≡ J.slots }
+        requires hub { shared.now.hub.now ≡ J.slots }
         requires same_hub { slots_of caller ≡ J.slots }
         requires shard { shard < length J.slots }
-        ensures caller { result.caller ≡ caller }
         ensures shard { result.shard ≡ shard }
-        ensures hub { result.hub.now ≡ hub.now }
+        ensures caller { result.caller ≡ caller }
+        ensures hub { result.hub.now ≡ shared.now.hub.now }
     {
+        let signals = shared.beat.signals();
         WorkerContext {
-            rt,
-            alloc,
-            settings,
-            parts,
-            hub,
+            rt: shared.rt,
+            alloc: shared.alloc,
+            settings: shared.settings,
+            parts: shared.limits.parts,
+            hub: shared.hub,
             caller,
             shard,
-            teller: Teller::new(rt, beat.signals()),
-            claim: BodyClaim::new(beat.signals().body_memory()),
-            beat,
+            beat: shared.beat.with_short_pauses(),
+            teller: Teller::new(shared.rt, signals),
+            claim: BodyClaim::new(signals.body_memory()),
             of: PhantomData,
         }
     }
@@ -104,41 +95,6 @@ impl<'h, J: Naming, R: Wait + Clock> WorkerContext<'h, J, R> {
         self.caller
     }
 
-    /// A beat for this thread.
-    pub fn beat(&self) -> ServiceBeat<'h, R> {
-        self.beat.with_short_pauses()
-    }
-
-    /// A beat for this thread, which makes turns.
-    pub fn turner_beat(&self) -> ServiceBeat<'h, R> {
-        self.beat.of_turner(self.shard)
-    }
-
-    /// A beat for this thread, which sends jobs.
-    pub fn sender_beat(&self) -> ServiceBeat<'h, R> {
-        self.beat.of_sender()
-    }
-
-    /// What threads tell one another.
-    pub fn signals(&self) -> &'h Signals {
-        self.beat.signals()
-    }
-
-    pub fn alloc(&self) -> Global {
-        self.alloc
-    }
-
-    pub fn rt(&self) -> &'h R {
-        self.rt
-    }
-
-    /// At which shard a tenant is.
-    fn shard_of(&self, tenant: u32) -> usize
-        ensures { result ≡ tenant % length self.now.hub.now }
-    {
-        self.hub.shard_of(tenant)
-    }
-
     /// Makes one step at this tenant's shard.
     pub fn step(&mut self, tenant: u32, step: Step) -> Result<Outcome, HubFault>
         ensures call { IfOk result (λ outcome. (receipt : Option Receipt)
@@ -149,7 +105,7 @@ impl<'h, J: Naming, R: Wait + Clock> WorkerContext<'h, J, R> {
         ensures fault { IfErr result (λ fault. fault ≡ faults.OutOfMemory) }
         ensures hub { self.new.hub ≡ self.old.hub }
     {
-        let shard = self.shard_of(tenant);
+        let shard = self.hub.shard_of(tenant);
         let (outcome, _receipt) = self
             .hub
             .step(self.rt, self.alloc, &mut self.caller, shard, step)?;
@@ -170,74 +126,12 @@ impl<'h, J: Naming, R: Wait + Clock> WorkerContext<'h, J, R> {
         ensures hub { self.new.hub ≡ self.old.hub }
     {
         let now = self.beat.now();
-        let shard = self.shard_of(tenant);
+        let shard = self.hub.shard_of(tenant);
         let step = Step::Report { tenant, now };
         let (outcome, _receipt) = self
             .hub
             .step(self.rt, self.alloc, &mut self.caller, shard, step)?;
         Ok(outcome)
-    }
-
-    /// The tenants that are present by the settings in force. Meanwhile they are locked.
-    pub fn tenants(&self) -> Result<Vec<Present>, AllocError>
-        ensures { IfOk result (λ tenants. (now : SettingsData) × CameOf J.first now
-            × (map entry_of tenants.items ≡ (names_in now).tenants)) }
-    {
-        self.settings.lock(self.rt).tenants(self.alloc)
-    }
-
-    /// The number of the tenant of this name by the settings in force. Meanwhile they are locked.
-    pub fn number(&self, name: &str) -> Option<u32>
-        ensures { (now : SettingsData) × CameOf J.first now × (result ≡ number_of now name.now) }
-    {
-        self.settings.lock(self.rt).number(name)
-    }
-
-    /// The section of the tenant of this number by the settings in force. Meanwhile they are locked.
-    pub fn section(&self, tenant: u32) -> Result<Option<Section>, AllocError>
-        ensures { IfOk result (λ section. (now : SettingsData) × CameOf J.first now
-            × (option_map section_view section ≡ section_at now tenant)) }
-    {
-        self.settings.lock(self.rt).section(tenant)
-    }
-
-    /// How many milliseconds ago the service was started.
-    pub fn uptime(&mut self) -> u64
-        ensures caller { self.new.caller ≡ self.old.caller }
-        ensures hub { self.new.hub ≡ self.old.hub }
-    {
-        self.beat.now()
-    }
-
-    /// It was refused memory for what lets memory go, and tries again.
-    pub fn want(&mut self)
-        ensures caller { self.new.caller ≡ self.old.caller }
-        ensures hub { self.new.hub ≡ self.old.hub }
-    {
-        self.teller.want();
-    }
-
-    /// It is refused memory no longer.
-    pub fn sate(&mut self)
-        ensures caller { self.new.caller ≡ self.old.caller }
-        ensures hub { self.new.hub ≡ self.old.hub }
-    {
-        self.teller.sate();
-    }
-
-    /// While memory is short the moments of this tenant's shard don't wait for the clock's, until `calm`, so that what
-    /// the tenant holds by now leaves one batch after another.
-    pub fn hurry(&self, tenant: u32) {
-        let now = self.beat().now();
-        let longest = self.settings.lock(self.rt).longest_wait(tenant);
-        if let Some(pace) = self.signals().paces().shard(self.shard_of(tenant)) {
-            pace.hurry(now.saturating_add(longest));
-        }
-    }
-
-    /// The moments of all shards go on as the clock's do.
-    pub fn calm(&self) {
-        self.signals().paces().calm();
     }
 
     /// Whether the tenant holds no span.
@@ -322,7 +216,7 @@ impl<'h, J: Naming, R: Wait + Clock> WorkerContext<'h, J, R> {
         ensures hub { self.new.hub ≡ self.old.hub }
         ensures moment { self.new.beat.last ≡ self.old.beat.last }
     {
-        let shard = self.shard_of(tenant);
+        let shard = self.hub.shard_of(tenant);
         let due = if self.teller.note_call(shard) {
             let told = self.hub.look(self.rt, &mut self.caller, tenant);
             told.answer.shard_ready
@@ -373,11 +267,12 @@ impl<'h, J: Naming, R: Wait + Clock> AnswerSink for WorkerContext<'h, J, R> {
             answer,
         ) {
             Ok(_) => {
-                let shard = self.shard_of(tenant);
+                let shard = self.hub.shard_of(tenant);
                 self.teller.answered(shard);
                 self.tell_turner(tenant);
-                self.signals().tally().end_job(answer);
-                self.signals().last_answers().note(tenant, now, answer);
+                let signals = self.beat.signals();
+                signals.tally().end_job(answer);
+                signals.last_answers().note(tenant, now, answer);
                 Ok(())
             }
             Err(_) => {
@@ -407,7 +302,7 @@ impl<'h, J: Naming, R: Wait + Clock> Handler for WorkerContext<'h, J, R> {
     /// Who goes to no tenant is refused before the body comes, by the settings that are in force then. So is a body for
     /// which too little memory is left.
     fn reply_to_head(&self, head: &HttpMessage) -> Option<Reply> {
-        match self.refusal(head) {
+        match refusal_of(self.rt, self.settings, head) {
             Some(refusal) => Some(refused(self.alloc, refusal)),
             None => if self.claim.claim(head) {
                 None
@@ -419,18 +314,15 @@ impl<'h, J: Naming, R: Wait + Clock> Handler for WorkerContext<'h, J, R> {
 
     fn handle<T: Threads + Sync>(&mut self, rt: &T, message: HttpMessage) -> Reply {
         let reply = self.reply_to(rt, message);
-        self.end_body();
+        self.claim.give_back();
         reply
     }
 }
 
 impl<'h, J: Naming, R: Wait + Clock> WorkerContext<'h, J, R> {
-    ghost use Rattle.std.specs.Prelude.{◌≡◌, length, Some, IfOk, IfSome};
+    ghost use Rattle.std.specs.Prelude.{◌≡◌, length, Some};
     ghost use Rattle.http_edge.specs.Seen.{response_of, seen};
-    ghost use Rattle.otlp_front.specs.Route.{names_in, route_of};
     ghost use Rattle.tail_settings.specs.Section.{section_view};
-    ghost use Rattle.tail_settings.specs.Settings.{SettingsData};
-    ghost use Rattle.tenant_registry.specs.InForce.{CameOf, IsWhere};
     ghost use Rattle.trace_service.specs.Post.{IsHandled, IsSent};
 
     /// The reply to a message, whose body is let go of.
@@ -438,7 +330,7 @@ impl<'h, J: Naming, R: Wait + Clock> WorkerContext<'h, J, R> {
         ensures { IsHandled J.first self.old.beat.last self.new.beat.last self.old.caller
             self.new.caller (length self.old.hub.now) (seen message) (response_of result) }
     {
-        match self.destination(&message) {
+        match destination_of(self.rt, self.settings, &message) {
             Ok(Destination::To { tenant, section }) => {
                 let HttpMessage { body, .. } = message;
                 self.post(rt, tenant, &section, body)
@@ -446,29 +338,6 @@ impl<'h, J: Naming, R: Wait + Clock> WorkerContext<'h, J, R> {
             Ok(Destination::Nowhere(refusal)) => refused(self.alloc, refusal),
             Err(AllocError) => without_memory(self.alloc),
         }
-    }
-
-    /// No body is on its way to it any more.
-    pub fn end_body(&self) {
-        self.claim.give_back();
-    }
-
-    /// Why the message with this head goes to no tenant, by the settings in force. None where it goes to one. Meanwhile
-    /// they are locked.
-    fn refusal(&self, head: &HttpMessage) -> Option<RouteRefusal>
-        ensures { IfSome result (λ refusal. (now : SettingsData) × CameOf J.first now
-            × IsWhere (route_of (names_in now) (seen head.now)) now
-            (Destination.Nowhere refusal)) }
-    {
-        self.settings.lock(self.rt).refusal(head)
-    }
-
-    /// Where a message goes, by the settings in force. Meanwhile they are locked.
-    fn destination(&self, message: &HttpMessage) -> Result<Destination, AllocError>
-        ensures { IfOk result (λ d. (now : SettingsData) × CameOf J.first now
-            × IsWhere (route_of (names_in now) (seen message.now)) now d) }
-    {
-        self.settings.lock(self.rt).destination(message)
     }
 
     /// Posts a body to the tenant with this number and section, once there is room for it, at the moment that it is
@@ -485,9 +354,10 @@ impl<'h, J: Naming, R: Wait + Clock> WorkerContext<'h, J, R> {
             (response_of result) }
     {
         let bytes = body.len();
-        self.signals().large_bodies().enter(self.rt, tenant, bytes);
+        let signals = self.beat.signals();
+        signals.large_bodies().enter(self.rt, tenant, bytes);
         let now = self.beat.now();
-        match self.admitted(now, tenant, body) {
+        match admitted(signals, self.hub.shard_of(tenant), now, body) {
             Ok(body) => {
                 let reply = post_body(
                     rt,
@@ -500,10 +370,10 @@ impl<'h, J: Naming, R: Wait + Clock> WorkerContext<'h, J, R> {
                     section,
                     body,
                     self.parts,
-                    self.beat.signals().gates(),
+                    signals.gates(),
                 );
                 if is_without_memory(&reply) {
-                    self.signals().refuse_post();
+                    signals.refuse_post();
                 }
                 self.end_post(tenant, bytes);
                 reply
@@ -515,16 +385,6 @@ impl<'h, J: Naming, R: Wait + Clock> WorkerContext<'h, J, R> {
         }
     }
 
-    /// The body as it may be shared, where a post may come to this tenant's shard at this moment.
-    fn admitted(&self, now: u64, tenant: u32, body: Vec<u8>) -> Result<Bytes, AllocError>
-        ensures { IfOk result (λ bytes. bytes ≡ body.items) }
-    {
-        if self.signals().is_short(self.shard_of(tenant), now) {
-            return Err(AllocError);
-        }
-        bytes_of(body)
-    }
-
     /// A post of a body of so many bytes is done: there is room for others, and its shard's turner is told.
     fn end_post(&mut self, tenant: u32, bytes: usize)
         ensures shard { self.new.shard ≡ self.old.shard }
@@ -532,9 +392,22 @@ impl<'h, J: Naming, R: Wait + Clock> WorkerContext<'h, J, R> {
         ensures hub { self.new.hub ≡ self.old.hub }
         ensures moment { self.new.beat.last ≡ self.old.beat.last }
     {
-        self.signals().large_bodies().leave(self.rt, tenant, bytes);
+        self.beat
+            .signals()
+            .large_bodies()
+            .leave(self.rt, tenant, bytes);
         self.tell_turner(tenant);
     }
+}
+
+/// The body as it may be shared, where a post may come to this shard at this moment.
+fn admitted(signals: &Signals, shard: usize, now: u64, body: Vec<u8>) -> Result<Bytes, AllocError>
+    ensures { IfOk result (λ bytes. bytes ≡ body.items) }
+{
+    if signals.is_short(shard, now) {
+        return Err(AllocError);
+    }
+    bytes_of(body)
 }
 
 /// A body as what may be shared. No byte is copied.

@@ -1,29 +1,31 @@
 //! Who reads the input, and ends the service.
 
-ghost use Rattle.std.specs.Prelude.{◌≡◌, length, map, IfOk, OnOk, IfNone, true};
+ghost use Rattle.std.specs.Prelude.{◌≡◌, ◌<◌, length, map, OnOk, IfNone, true};
 ghost use Rattle.std.specs.Bool.{OnTrue};
 ghost use Rattle.tenant_registry.specs.Roster.{entry_of, present_in};
-ghost use Rattle.trace_service.specs.Control.{Answers, Directs, ReadsCommands, Reports, ReportsNamed};
+ghost use Rattle.trace_service.specs.Control.{Answers, ReadsCommands, Reports, ReportsNamed};
 ghost use Rattle.trace_service.specs.Commands.{AreDrained, AreEmptyOn, AreReported, IsMade, AsksNothing, step_of};
 ghost use Rattle.trace_service.specs.CommandReply.{reply_text};
 
 use crate::beside::Director;
 use crate::chore::Chore;
 use crate::context::WorkerContext;
+use crate::lookup::longest_wait_of;
 use crate::naming::Naming;
 use crate::reports::{CommandReply, line_of};
 use crate::service::ServiceFault;
 use export_edge::Beat;
 use service_runtime::{
-    Documents, Line, Observer, ServiceBeat, Stage, all_arrive, next_line, wake_at_last, write_text,
+    Documents, Line, Observer, ServiceBeat, Signals, Stage, Teller, all_arrive, next_line,
+    wake_at_last, write_text,
 };
 use std::alloc::{AllocError, Global};
 use std::io::{BufRead, Write};
 use std::mem;
 use std::net::{Net, TcpListener, TcpStream};
-use std::sync::Wait;
+use std::sync::{Mutex, Wait};
 use std::time::Clock;
-use tenant_registry::{Present, Registrar, Roster};
+use tenant_registry::{InForce, Present, Registrar, Roster, SettingsNaming};
 use tenant_shard::Outcome;
 
 /// Who reads the input: the tenants that it knows, its context, and how it reaches the listener.
@@ -47,54 +49,6 @@ where
     R: Net<Listener = TcpListener, Stream = TcpStream> + Wait + Clock,
     D: Documents,
 {
-    /// Once all threads are there reads the input to its end, has every tenant send what it holds, and prints the
-    /// reports: how many of all answers were lost. Whatever comes of it, the other threads are told that the work is
-    /// over.
-    fn go_through<I: BufRead, O: Write, L: Observer>(
-        &mut self,
-        input: &mut I,
-        output: &mut O,
-        observer: &mut L,
-        threads: usize,
-    ) -> Result<u64, ServiceFault>
-        ensures { IfOk result (λ lost. Directs D.reads J.first (I.remaining input.old) self.old
-            (O.contents output.old, 0) self.new (O.contents output.new, lost)) }
-    {
-        if !all_arrive(&self.beat, threads) {
-            return Err(ServiceFault::NoThread);
-        }
-        let mut roster = mem::replace(&mut self.roster, Roster::new(self.alloc));
-        observer.observe(Stage::Serving);
-        let mut lost = 0;
-        let has_admin_port = self.admin.is_some();
-        let heard = self.read_commands(
-            &mut roster,
-            input,
-            output,
-            &mut lost,
-            observer,
-            has_admin_port,
-        );
-        observer.observe(Stage::Draining);
-        self.drain_all(roster.tenants());
-        self.beat.signals().close();
-        self.await_empty(roster.tenants(), observer);
-        self.print_reports(roster.tenants(), output, &mut lost);
-        observer.observe(Stage::Closing);
-        self.beat.signals().end();
-        wake_at_last(self.rt, self.listener);
-        self.wake_admin();
-        heard?;
-        Ok(lost)
-    }
-
-    /// Wakes who waits for clients of the admin port.
-    fn wake_admin(&self) {
-        if let Some(admin) = self.admin {
-            wake_at_last(self.rt, admin);
-        }
-    }
-
     /// Answers the lines of the input, to its end.
     fn read_commands<I: BufRead, O: Write, L: Observer>(
         &mut self,
@@ -116,11 +70,9 @@ where
             if !next_line(self.rt, input, &mut line)? {
                 return Ok(());
             }
-            if asks_nothing(roster, line.as_slice()) {
-                let line = line.as_slice();
-                observer.observe(Stage::Skipped { line });
-            }
-            self.run_command(roster, output, lost, line.as_slice(), has_admin_port);
+            let text = line.as_slice();
+            note_skipped(roster, text, observer);
+            self.run_command(roster, output, lost, text, has_admin_port);
         }
         unreachable!()
     }
@@ -170,10 +122,12 @@ where
         ensures changes { self.new.registrar ≡ self.old.registrar }
     {
         let outcome = self.make(tenant.number, Chore::Report);
-        let line = self.line_again(CommandReply::Outcome {
+        let reply = CommandReply::Outcome {
             name: tenant.name.as_str(),
             outcome: &outcome,
-        });
+        };
+        let context = &mut self.context;
+        let line = line_again(self.rt, self.alloc, &mut context.teller, &self.beat, reply);
         write_text(output, line.as_slice(), lost);
     }
 
@@ -200,18 +154,12 @@ where
             self.new.beat.last }
         ensures hub { self.new.context.hub ≡ self.old.context.hub }
     {
-        self.hurry(tenants);
+        let shards = self.context.hub.shards();
+        hurry(self.rt, self.context.settings, &self.beat, shards, tenants);
         for tenant in tenants {
             self.make(tenant.number, Chore::Drain);
         }
-        self.context.calm();
-    }
-
-    /// While memory is short nobody waits with these tenants' spans for the clock.
-    fn hurry(&self, tenants: &[Present]) {
-        for tenant in tenants {
-            self.context.hurry(tenant.number);
-        }
+        self.beat.signals().paces().calm();
     }
 
     /// Makes a step of a tenant, at the moment that it now is: again, after a pause, where memory was refused.
@@ -228,31 +176,9 @@ where
             match self.context.step(tenant, step) {
                 Ok(outcome) => return outcome,
                 Err(_) => {
-                    self.context.want();
+                    let context = &mut self.context;
+                    context.teller.want();
                     self.beat.pause();
-                }
-            }
-        }
-        unreachable!()
-    }
-
-    /// The line that says this: again, after a pause, where memory is refused.
-    pub fn line_again(&mut self, reply: CommandReply<'_>) -> Vec<u8>
-        ensures line { result.items ≡ reply_text reply.entry }
-        ensures caller { self.new.context.caller ≡ self.old.context.caller }
-        ensures hub { self.new.context.hub ≡ self.old.context.hub }
-        ensures last { self.new.beat.last ≡ self.old.beat.last }
-        ensures changes { self.new.registrar ≡ self.old.registrar }
-    {
-        'attempts: for _ in self.rt.forever() {
-            match line_of(self.alloc, reply) {
-                Ok(line) => {
-                    self.context.sate();
-                    return line;
-                }
-                Err(AllocError) => {
-                    self.context.want();
-                    self.beat.with_short_pauses().pause();
                 }
             }
         }
@@ -272,11 +198,7 @@ where
             let Some(tenant) = self.first_held(tenants) else {
                 return;
             };
-            if awaited != Some(tenant.number) {
-                awaited = Some(tenant.number);
-                let name = tenant.name.as_str();
-                observer.observe(Stage::Sending { name });
-            }
+            note_awaited(tenant, &mut awaited, observer);
             self.beat.with_short_pauses().pause();
         }
         unreachable!()
@@ -296,6 +218,83 @@ where
             }
         }
         None
+    }
+}
+
+/// While memory is short the moments of these tenants' shards don't wait for the clock's, until they are calm, so that
+/// what the tenants hold by now leaves one batch after another.
+fn hurry<J: SettingsNaming, R: Wait + Clock>(
+    rt: &R,
+    settings: &Mutex<InForce<J>>,
+    beat: &ServiceBeat<'_, R>,
+    shards: usize,
+    tenants: &[Present],
+)
+    requires { 0 < shards }
+{
+    for tenant in tenants {
+        let now = beat.with_short_pauses().now();
+        let longest = longest_wait_of(rt, settings, tenant.number);
+        if let Some(pace) = beat
+            .signals()
+            .paces()
+            .shard(tenant.number as usize % shards)
+        {
+            pace.hurry(now.saturating_add(longest));
+        }
+    }
+}
+
+/// The work is over from now on, and who waits for clients is woken, at the admin port too.
+fn end_work<R>(rt: &R, signals: &Signals, listener: &TcpListener, admin: Option<&TcpListener>)
+where
+    R: Net<Listener = TcpListener, Stream = TcpStream> + Wait + Clock,
+{
+    signals.end();
+    wake_at_last(rt, listener);
+    if let Some(admin) = admin {
+        wake_at_last(rt, admin);
+    }
+}
+
+/// The line that says this: again, after a pause, where memory is refused.
+pub(crate) fn line_again<R: Wait + Clock>(
+    rt: &R,
+    alloc: Global,
+    teller: &mut Teller<'_, R>,
+    beat: &ServiceBeat<'_, R>,
+    reply: CommandReply<'_>,
+) -> Vec<u8>
+    ensures { result.items ≡ reply_text reply.entry }
+{
+    'attempts: for _ in rt.forever() {
+        match line_of(alloc, reply) {
+            Ok(line) => {
+                teller.sate();
+                return line;
+            }
+            Err(AllocError) => {
+                teller.want();
+                beat.with_short_pauses().pause();
+            }
+        }
+    }
+    unreachable!()
+}
+
+/// The observer is told of a line that asks for nothing.
+fn note_skipped<L: Observer>(roster: &Roster, line: &[u8], observer: &mut L) {
+    if asks_nothing(roster, line) {
+        observer.observe(Stage::Skipped { line });
+    }
+}
+
+/// The observer is told for which tenant is waited, unless that is the one for which it was before.
+fn note_awaited<L: Observer>(tenant: &Present, awaited: &mut Option<u32>, observer: &mut L) {
+    if *awaited != Some(tenant.number) {
+        *awaited = Some(tenant.number);
+        let name = tenant.name.as_str();
+        observer.observe(Stage::Sending { name });
     }
 }
 
@@ -324,6 +323,9 @@ where
     ghost directs = { λ old input so_far new written.
         Directs D.reads J.first input old (so_far, 0) new written };
 
+    /// Once all threads are there reads the input to its end, has every tenant send what it holds, and prints the
+    /// reports: how many of all answers were lost. Whatever comes of it, the other threads are told that the work is
+    /// over.
     fn direct<I: BufRead, O: Write, L: Observer>(
         &mut self,
         input: &mut I,
@@ -331,6 +333,30 @@ where
         observer: &mut L,
         threads: usize,
     ) -> Result<u64, ServiceFault> {
-        self.go_through(input, output, observer, threads)
+        if !all_arrive(&self.beat, threads) {
+            return Err(ServiceFault::NoThread);
+        }
+        let mut roster = mem::replace(&mut self.roster, Roster::new(self.alloc));
+        observer.observe(Stage::Serving);
+        let mut lost = 0;
+        let has_admin_port = self.admin.is_some();
+        let heard = self.read_commands(
+            &mut roster,
+            input,
+            output,
+            &mut lost,
+            observer,
+            has_admin_port,
+        );
+        observer.observe(Stage::Draining);
+        let tenants = roster.tenants();
+        self.drain_all(tenants);
+        self.beat.signals().close();
+        self.await_empty(tenants, observer);
+        self.print_reports(tenants, output, &mut lost);
+        observer.observe(Stage::Closing);
+        end_work(self.rt, self.beat.signals(), self.listener, self.admin);
+        heard?;
+        Ok(lost)
     }
 }

@@ -26,6 +26,8 @@ mod chore;
 mod comings;
 mod context;
 mod control;
+mod figures;
+mod lookup;
 mod naming;
 mod options;
 mod post;

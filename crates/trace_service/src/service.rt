@@ -1,6 +1,6 @@
 //! The service, from its start to its end.
 
-ghost use Rattle.std.specs.Prelude.{◌≡◌, ◌<◌, ◌+◌, [], length, All, IfOk, is_some, replicate, vec_len};
+ghost use Rattle.std.specs.Prelude.{◌≡◌, ◌<◌, ◌+◌, ℕ, [], Ok, length, All, IfOk, is_some, replicate, vec_len};
 ghost use Rattle.std.specs.IoError.{error_kind};
 ghost use Rattle.std.specs.Thread.{IsSync};
 ghost use Rattle.agreed_list.specs.Agreed.{half_of};
@@ -12,6 +12,7 @@ ghost use Rattle.tail_settings.specs.Settings.{SettingsData, settings_view};
 ghost use Rattle.shard_machine.specs.MachineState.{MachineDoes};
 ghost use Rattle.shared_hub.specs.declared.fault.HubFault.TheVariants as hub_faults;
 ghost use Rattle.tenant_registry.specs.Roster.{present_in};
+ghost use Rattle.trace_service.specs.Audit.{IsFollowed, audit_text};
 ghost use Rattle.trace_service.specs.Control.{Directs};
 ghost use Rattle.trace_service.specs.Fault.{IsOfLine};
 ghost use Rattle.trace_service.specs.Jobs.{AreThreads, IsThread};
@@ -20,23 +21,24 @@ ghost use Rattle.trace_service.specs.declared.service.ServiceFault.TheVariants a
 
 use crate::assignment::{assign_threads, collect_callers};
 use crate::beside::work_beside;
+use crate::context::WorkerContext;
 use crate::control::Control;
 use crate::naming::Naming;
 use crate::options::ServiceOptions;
 use crate::reports::write_audit;
-use crate::shared::{ServiceLimits, Shared, Workplace};
+use crate::shared::{ServiceLimits, Shared, Workplace, listener_of};
 use crate::start::{Console, ServiceStart};
 use crate::workers::{Worker, work_all};
 use agreed_list::{AgreedList, Half};
 use job_lane::{Lane, LaneKeeper, LaneSeat};
-use service_runtime::{Documents, Observer, Signals, Stage};
+use service_runtime::{Documents, Observer, Stage};
 use shared_hub::{Caller, HubFault, HubKeeper, ShardLog, SharedHub};
-use std::alloc::AllocError;
+use std::alloc::{AllocError, Global};
 use std::io;
 use std::io::{BufRead, ErrorKind, Write};
 use std::marker::Brand;
 use std::net::{Net, TcpListener, TcpStream};
-use std::sync::{Mutex, Wait};
+use std::sync::Wait;
 use std::thread::Threads;
 use std::time::Clock;
 use tail_settings::Settings;
@@ -220,15 +222,29 @@ where
     let Workplace { hub, lane, .. } = workplace;
     let _totals = lane.close(start.rt, lane_keeper, seats);
     let shards = end_hub(start.rt, hub, keeper, callers);
-    let audit = start.options.audit;
-    let mut lost = ended.unwrap_or(0);
-    write_audit(
+    close_output(
         start.alloc,
         &mut console.output,
         shards.as_slice(),
-        audit,
-        &mut lost,
-    )?;
+        start.options.audit,
+        ended,
+    )
+}
+
+/// Writes what stands last, where an audit is asked for: how many answers were lost with it, or how the input failed.
+fn close_output<O: Write>(
+    alloc: Global,
+    output: &mut O,
+    shards: &[ShardLog],
+    audit: bool,
+    ended: Result<u64, ServiceFault>,
+) -> Result<u64, ServiceFault>
+    ensures { IfOk result (λ lost. (before : ℕ) × (ended ≡ Ok before)
+        × IsFollowed audit (audit_text shards.now) (O.contents output.old, before)
+        (O.contents output.new, lost)) }
+{
+    let mut lost = ended.unwrap_or(0);
+    write_audit(alloc, output, shards, audit, &mut lost)?;
     ended?;
     Ok(lost)
 }
@@ -297,9 +313,7 @@ where
     let shared = Shared::at(start, workplace, limits, callers.len())?;
     let shards = shared.hub.shards();
     prove!(0 < shards);
-    // Who has served to the end says so, whatever memory there is by then.
-    let all_callers = Vec::with_capacity(shared.alloc, shared.threads)?;
-    let all_seats = Vec::with_capacity(shared.alloc, shared.threads)?;
+    let (all_callers, all_seats) = room_for(shared.alloc, shared.threads)?;
     let Some(own) = callers.pop() else {
         unreachable!()
     };
@@ -310,8 +324,8 @@ where
         roster,
         documents: start.documents,
         listener: shared.entrance.listener(),
-        admin: shared.admin_listener(),
-        context: shared.context(own, 0),
+        admin: listener_of(&shared.admin),
+        context: WorkerContext::of_thread(&shared, own, 0),
         beat: shared.beat.of_chores(),
     };
     let mut workers = assign_threads::<J, R>(&shared, callers, seats)?;
@@ -319,6 +333,16 @@ where
     let own = control.context.into_caller();
     let (callers, seats) = collect_callers(all_callers, all_seats, workers, own)?;
     Ok((callers, seats, ended))
+}
+
+/// Lists with room for so many callers and seats. Who has served to the end says so, whatever memory there is by then.
+fn room_for(alloc: Global, threads: usize) -> Result<(Vec<Caller>, Vec<LaneSeat>), AllocError>
+    ensures callers { IfOk result (λ r. r.0.items ≡ []) }
+    ensures seats { IfOk result (λ r. r.1.items ≡ []) }
+{
+    let callers = Vec::with_capacity(alloc, threads)?;
+    let seats = Vec::with_capacity(alloc, threads)?;
+    Ok((callers, seats))
 }
 
 /// The workers' work, with that of who reads the input beside it: how many answers were lost, or how the input failed.

@@ -1,9 +1,7 @@
 //! What all threads share.
 
-ghost use Rattle.std.specs.Prelude.{◌≡◌, ◌<◌, ◌≤◌, None, IfOk, length, unwrap_or, if◌then◌else◌};
-ghost use Rattle.machine_hub.specs.Hub.{slots_of};
+ghost use Rattle.std.specs.Prelude.{◌≡◌, ◌<◌, ◌≤◌, None, IfOk, is_some, unwrap_or, if◌then◌else◌};
 
-use crate::context::WorkerContext;
 use crate::naming::Naming;
 use crate::options::ServiceOptions;
 use crate::start::ServiceStart;
@@ -11,7 +9,7 @@ use job_lane::Lane;
 use service_runtime::{
     ADMINS, AdminEntrance, Entrance, Patience, ServiceBeat, Signals, admin_entrance_of,
 };
-use shared_hub::{Caller, SharedHub};
+use shared_hub::SharedHub;
 use std::alloc::{AllocError, Global};
 use std::io;
 use std::net::TcpListener;
@@ -22,7 +20,7 @@ use tenant_registry::{ChangeList, InForce};
 
 /// How many threads there are of a kind, how long they wait for those outside, and how much they hold of what comes.
 /// It stays as the settings change.
-#[derive(Clone, Copy, Debug)]
+#[derive(Clone, Copy)]
 pub(crate) struct ServiceLimits {
     pub senders: u32,
     pub receivers: u32,
@@ -137,7 +135,7 @@ pub(crate) struct Shared<'h, J: Naming, R> {
 }
 
 impl<'h, J: Naming, R: Wait + Clock> Shared<'h, J, R> {
-    ghost use Rattle.std.specs.Prelude.{◌≡◌, ◌<◌, IfOk, is_some, length, option_map};
+    ghost use Rattle.std.specs.Prelude.{◌≡◌, IfOk, is_some, option_map};
 
     /// So many threads share this workplace, from now on.
     pub fn at<D>(
@@ -167,35 +165,14 @@ impl<'h, J: Naming, R: Wait + Clock> Shared<'h, J, R> {
             is_verbose: start.options.verbose,
         })
     }
+}
 
-    /// Where the admin port listens.
-    pub fn admin_listener(&self) -> Option<&'h TcpListener>
-        ensures { is_some result ≡ is_some self.now.admin }
-    {
-        match &self.admin {
-            Some(admin) => Some(admin.port.listener),
-            None => None,
-        }
-    }
-
-    /// A context for who makes turns of this shard.
-    pub fn context(&self, caller: Caller, shard: usize) -> WorkerContext<'h, J, R>
-        requires hub { self.now.hub.now ≡ J.slots }
-        requires same_hub { slots_of caller ≡ J.slots }
-        requires shard { shard < length J.slots }
-        ensures shard { result.shard ≡ shard }
-        ensures caller { result.caller ≡ caller }
-        ensures hub { result.hub.now ≡ self.now.hub.now }
-    {
-        WorkerContext::new(
-            self.rt,
-            self.alloc,
-            self.settings,
-            self.limits.parts,
-            self.hub,
-            caller,
-            shard,
-            self.beat.with_short_pauses(),
-        )
+/// Where an admin port listens, if there is one.
+pub(crate) fn listener_of<'h>(admin: &Option<AdminEntrance<'h>>) -> Option<&'h TcpListener>
+    ensures { is_some result ≡ is_some admin.now }
+{
+    match admin {
+        Some(admin) => Some(admin.port.listener),
+        None => None,
     }
 }

@@ -26,7 +26,7 @@ use std::time::Clock;
 use tenant_registry::{BackEnds, ToldBackEnd};
 
 /// What a thread does.
-#[derive(Clone, Copy, PartialEq, Eq, Debug)]
+#[derive(Clone, Copy)]
 pub(crate) enum Role {
     /// Makes turns of its context's shard.
     Turner,
@@ -125,12 +125,12 @@ where
     ensures { IsThread J.first (length J.slots) J.fresh worker.new.context.caller worker.new.seat }
 {
     settle(worker.role, shared.beat.signals().reserve());
-    if !all_arrive(&worker.context.beat(), shared.threads) {
+    if !all_arrive(&shared.beat, shared.threads) {
         return;
     }
     match worker.role {
         Role::Turner => {
-            let mut beat = worker.context.turner_beat();
+            let mut beat = worker.context.beat.of_turner(worker.context.shard);
             // A job that it still holds at the end is let go with the shards.
             let _held = run_turner(
                 shared.rt,
@@ -161,15 +161,15 @@ where
     requires new { worker.old.seat ≡ new_seat J.lane }
     ensures { IsThread J.first (length J.slots) J.fresh worker.new.context.caller worker.new.seat }
 {
-    let mut beat = worker.context.sender_beat();
+    let mut beat = worker.context.beat.of_sender();
+    let signals = shared.beat.signals();
     let back_ends = BackEnds {
         rt: shared.rt,
         settings: shared.settings,
-        tally: shared.beat.signals().tally(),
+        tally: signals.tally(),
     };
     let limit = shared.limits.back_end_timeout;
     let over_tcp = TcpBackEnd::new(shared.rt, shared.alloc, back_ends, limit);
-    let signals = worker.context.signals();
     let mut back_end = ToldBackEnd {
         rt: shared.rt,
         alloc: shared.alloc,
@@ -239,29 +239,34 @@ impl<'h, J: Naming, R: Wait + Clock> Reception for WorkerContext<'h, J, R> {
     ghost rests = { λ old new. new ≡ old };
 
     fn is_closing(&mut self) -> bool {
-        self.signals().is_over()
+        self.beat.signals().is_over()
     }
 
     fn next(&mut self, door: &Entrance<'h>) -> Option<Client<'h>> {
-        door.admit(self.rt(), self.signals())
+        door.admit(self.rt, self.beat.signals())
     }
 
     /// Its faults are nobody's but its own: a connection that failed is given up, and what was posted over it stands.
     fn serve<T: Threads + Sync>(&mut self, rt: &T, guest: Client<'h>, buffer: &mut Vec<u8>) {
-        let mut beat = self.beat();
-        let tally = self.signals().tally();
+        let mut beat = self.beat.with_short_pauses();
+        let tally = self.beat.signals().tally();
         tally.begin_connection();
-        let mut line = StreamLine::new(Counted::new(Visit::new(self.rt(), &guest), tally));
-        let served = serve(rt, self.alloc(), &mut line, self, buffer);
-        self.end_body();
-        match served {
-            Ok(()) | Err(EdgeFault::OutOfMemory) => linger(&guest.stream, &mut beat),
-            Err(_) => {}
-        }
+        let mut line = StreamLine::new(Counted::new(Visit::new(self.rt, &guest), tally));
+        let served = serve(rt, self.alloc, &mut line, self, buffer);
+        self.claim.give_back();
+        linger_unless_failed(served, &guest.stream, &mut beat);
         tally.end_connection();
     }
 
     fn pause(&mut self) {
-        self.beat().pause();
+        self.beat.with_short_pauses().pause();
+    }
+}
+
+/// Lingers over a connection, unless it failed.
+fn linger_unless_failed<B: Beat>(served: Result<(), EdgeFault>, stream: &TcpStream, beat: &mut B) {
+    match served {
+        Ok(()) | Err(EdgeFault::OutOfMemory) => linger(stream, beat),
+        Err(_) => {}
     }
 }

@@ -27,7 +27,7 @@ loop-caller-preserved g c =
       count = omega (arith, c.loop-caller.invariant.count, c.in-Some.ensures.cases, c.in_ok-push.ensures.len);
       workers = one_more _ _ _ _ _ _ _ _ _ _ _ c.loop-caller.invariant.workers c.in_ok-push.ensures.items c.in_ok-push.ensures.len
           c.len.ensures c.role_of-role.ensures.place
-          (ap (λ r. (r, c.new.result.context.shard)) c.new.ensures.role ∙ ap (λ s. (c.role_of-role.result.0, s)) (c.new.ensures.shard ∙ c.context.ensures.shard));
+          (ap (λ r. (r, c.new.result.context.shard)) c.new.ensures.role ∙ ap (λ s. (c.role_of-role.result.0, s)) (c.new.ensures.shard ∙ c.of_thread-context.ensures.shard));
       idle = rw c.in_ok-push.ensures.items (All-push (λ w. (w.context.caller ≡ fresh) × (w.seat ≡ empty)) c.loop-caller.workers.items c.new.result c.loop-caller.invariant.idle
-          (c.new.ensures.caller ∙ (c.context.ensures.caller ∙ caller.1), c.new.ensures.seat ∙ seat.1));
+          (c.new.ensures.caller ∙ (c.of_thread-context.ensures.caller ∙ caller.1), c.new.ensures.seat ∙ seat.1));
     }

@@ -29,9 +29,9 @@ returns-clause-course g c =
     let P : CallerState → Type 0 = λ x. x ≡ g.J.Naming.fresh in
     let new : c.in-Some.own ≡ g.J.Naming.fresh =
     (All-pop P c.args.callers.items c.pop.new.self.items (Some c.in-Some.own) c.in-Some.ensures.items c.requires.new).1 in
-    course_from (is_some c.admin_listener.result) (is_some c.args.start.now.admin) g.D.Documents.reads c.all_work-ended.result g.J.SettingsNaming.first (present_in c.args.roster) c.new.result (length c.context.result.hub.now)
+    course_from (is_some c.listener_of.result) (is_some c.args.start.now.admin) g.D.Documents.reads c.all_work-ended.result g.J.SettingsNaming.first (present_in c.args.roster) c.new.result (length c.of_thread.result.hub.now)
     (length g.J.Naming.slots) (g.I.Read.remaining c.args.console.now.input) (g.O.Write.contents c.args.console.now.output)
-    (g.O.Write.contents c.all_work-ended.new.console.output) c.context.result.caller g.J.Naming.fresh
-    c.all_work-ended.new.control.context.caller _ _ _ (c.admin_listener.ensures ∙ c.in_ok-shared.ensures.admin) (ap length (c.context.ensures.hub ∙ c.in_ok-shared.ensures.hub ∙ c.requires.hub))
-    (c.context.ensures.caller ∙ new) (c.new.ensures ∙ c.requires.no_change) (rw c.into_caller-own.ensures.caller at c.in_ok-callers.ensures.own_first)
+    (g.O.Write.contents c.all_work-ended.new.console.output) c.of_thread.result.caller g.J.Naming.fresh
+    c.all_work-ended.new.control.context.caller _ _ _ (c.listener_of.ensures ∙ c.in_ok-shared.ensures.admin) (ap length (c.of_thread.ensures.hub ∙ c.in_ok-shared.ensures.hub ∙ c.requires.hub))
+    (c.of_thread.ensures.caller ∙ new) (c.new.ensures ∙ c.requires.no_change) (rw c.into_caller-own.ensures.caller at c.in_ok-callers.ensures.own_first)
     c.all_work-ended.ensures.directed

@@ -1,4 +1,4 @@
-use Rattle.std.proofs.Common.{◌%◌, ℕ, [], ◌∷◌, ◌++◌, length, refl, sym, ◌∙◌}
+use Rattle.std.proofs.Common.{◌%◌, ℕ, [], ◌∷◌, ◌++◌, length, refl, ◌∙◌}
 use Rattle.export_edge.proofs.Throughs.{through_more}
 use Rattle.machine_hub.specs.Hub.{IsRefusedOn}
 use Rattle.service_runtime.proofs.Rising.{rises_more, rises_same}
@@ -15,12 +15,12 @@ attempts-preserved g c =
     let tried = before.tried in
     let more = rises_more _ _ c.now-now.result _ tried.0 tried.2 c.now-now.ensures in
     record {
-      hub = c.want.ensures.hub ∙ c.step.ensures.hub ∙ before.hub;
+      hub = c.step.ensures.hub ∙ before.hub;
       changes = before.changes;
       tried = (
         tried.0 ++ c.now-now.result ∷ [],
         through_more (λ (s : CallerState) (now : ℕ) (t : CallerState). IsRefusedOn s t (c.args.tenant % n)) _ _ _ tried.0 c.now-now.result tried.1
-            (rw (before.hub, sym c.want.ensures.caller) at c.in-Err.ensures.on_refusal),
+            (rw before.hub at c.in-Err.ensures.on_refusal),
         rises_same _ _ _ (tried.0 ++ c.now-now.result ∷ []) more c.pause.ensures,
       );
     }

@@ -13,7 +13,7 @@ lines-preserved g c =
       hub = answered.hub ∙ before.hub;
       heard = heard_more _ _ _ _ _ _ _ _ _ _ _ _ _ _ _ _ _ _ _ c.next_line.new.line.items before.heard
           (rw c.if-not-branch.false at c.in_ok-next_line.ensures)
-          (rw (before.hub, c.as_slice-in-lines.ensures.value) at answered.answered);
+          (rw (before.hub, c.as_slice-text.ensures.value) at answered.answered);
     }
 
 pub returns-then-not-branch-clause-commands_read : goal.returns-then-not-branch-clause-commands_read

@@ -3,7 +3,6 @@ use Rattle.trace_service.proofs.control.Control.retire.Goals as goal
 
 pub returns-clause-retired : goal.returns-clause-retired
 returns-clause-retired g c =
-    let told = c.line_again-line.ensures in
     let seen = c.await_tenant.ensures in
     let drained = c.make.ensures in
     rw (sym c.in-Some.ensures.number) (record {
@@ -13,7 +12,7 @@ returns-clause-retired g c =
       drained = drained.made;
       empty = rw drained.hub at seen.empty;
       outcome = c.make-outcome.result;
-      made = rw (told.last, told.caller) (rw (seen.hub ∙ drained.hub, seen.caller, seen.last) at c.make-outcome.ensures.made);
-      left_are = rw (told.changes ∙ c.make-outcome.ensures.changes ∙ seen.changes ∙ drained.changes) at c.let_go.ensures;
-      line = rw (c.as_slice.ensures.value, told.line, c.as_str.ensures.value, c.in-Some.ensures.name) at c.write_text.ensures;
+      made = rw (seen.hub ∙ drained.hub, seen.caller, seen.last) at c.make-outcome.ensures.made;
+      left_are = rw (c.make-outcome.ensures.changes ∙ seen.changes ∙ drained.changes) at c.let_go.ensures;
+      line = rw (c.as_slice.ensures.value, c.line_again-line.ensures, c.as_str.ensures.value, c.in-Some.ensures.name) at c.write_text.ensures;
     })

@@ -1,12 +1,12 @@
 use Rattle.std.proofs.Common.{is_some, length, ◌∙◌}
 use Rattle.trace_service.specs.Control.{standing_of}
 use Rattle.trace_service.proofs.Coursed.{directed}
-use Rattle.trace_service.proofs.control.Control.go_through.Goals as goal
+use Rattle.trace_service.proofs.control.ControlDirector.direct.Goals as goal
 
 pub print_reports-requires : goal.print_reports-requires
 print_reports-requires g c =
     let waited = c.await_empty.ensures in
-    record { empty = rw (waited.hub, waited.caller, c.tenants-3.ensures) (rw c.tenants-2.ensures at waited.empty) }
+    record { empty = rw (waited.hub, waited.caller, c.tenants-tenants.ensures) (rw c.tenants-tenants.ensures at waited.empty) }
 
 pub returns : goal.returns
 returns g c =
@@ -20,5 +20,5 @@ returns g c =
     _ c.read_commands-heard.new.self.context.caller c.drain_all.new.self.context.caller _
     _ c.read_commands-heard.new.self.beat.last c.drain_all.new.self.beat.last _
     c.in_ok-heard.was (rw (c.is_some-has_admin_port.ensures, c.replace-roster.ensures.value) at heard.commands_read)
-    (rw (heard.hub, c.tenants.ensures) at drained.drained) (rw (hub, c.tenants-2.ensures) at waited.empty)
-    (rw (waited.hub ∙ hub, waited.caller, waited.last, c.tenants-3.ensures) at c.print_reports.ensures.reported)
+    (rw (heard.hub, c.tenants-tenants.ensures) at drained.drained) (rw (hub, c.tenants-tenants.ensures) at waited.empty)
+    (rw (waited.hub ∙ hub, waited.caller, waited.last, c.tenants-tenants.ensures) at c.print_reports.ensures.reported)

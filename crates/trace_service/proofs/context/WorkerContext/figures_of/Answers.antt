@@ -5,18 +5,16 @@ use Rattle.tenant_registry.specs.Roster.{entry_of}
 use Rattle.tenant_registry.proofs.Answered.{on_err}
 use Rattle.trace_service.specs.Shown.{AreLooked, no_look}
 use Rattle.trace_service.proofs.Shown.{all_looked, looked_more, looks_then}
-use Rattle.trace_service.proofs.admin_handler.AdminHandler.figures_of.Goals as goal
+use Rattle.trace_service.proofs.context.WorkerContext.figures_of.Goals as goal
 
 pub loop-tenant-init : goal.loop-tenant-init
-loop-tenant-init g c = record { same = refl; lent = refl; hub = refl; looked = rw c.new-figures.ensures.items no_look }
+loop-tenant-init g c = record { hub = refl; looked = rw c.new-figures.ensures.items no_look }
 
 pub loop-tenant-preserved : goal.loop-tenant-preserved
 loop-tenant-preserved g c =
     let before = c.loop-tenant.invariant in
     let told = c.in_ok-add_figures.ensures.looked in
     record {
-      same = c.add_figures.ensures.same ∙ before.same;
-      lent = c.add_figures.ensures.lent ∙ before.lent;
       hub = c.add_figures.ensures.hub ∙ before.hub;
       looked = looked_more _ _ c.args.tenants.now c.loop-tenant.tenant-index c.tenant-item.result _ _ _ told.0 told.1 told.2 _
           c.loop-tenant-test.true c.tenant-item.is before.looked (rw before.hub at told.3) (rw before.hub at told.4) told.5 told.6;
@@ -30,6 +28,6 @@ returns-in_err-add_figures-clause-looks g c =
 
 pub returns-clause-looked : goal.returns-clause-looked
 returns-clause-looked g c =
-    subst (λ ts. AreLooked (length c.args.self.now.context.now.hub.now) c.args.self.now.context.now.caller (map entry_of ts)
-    (map tenant_of c.loop-tenant.figures.items) c.loop-tenant.self.context.now.caller)
+    subst (λ ts. AreLooked (length c.args.self.now.hub.now) c.args.self.now.caller (map entry_of ts)
+    (map tenant_of c.loop-tenant.figures.items) c.loop-tenant.self.caller)
     (take_all c.loop-tenant.tenant-index c.args.tenants.now c.loop-tenant-test.false) c.loop-tenant.invariant.looked

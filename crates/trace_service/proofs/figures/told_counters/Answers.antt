@@ -1,5 +1,5 @@
 use Rattle.trace_service.proofs.Shown.{tells_read}
-use Rattle.trace_service.proofs.admin_handler.told_counters.Goals as goal
+use Rattle.trace_service.proofs.figures.told_counters.Goals as goal
 
 pub returns-in-Report : goal.returns-in-Report
 returns-in-Report c =

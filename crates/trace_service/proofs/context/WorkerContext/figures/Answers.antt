@@ -1,7 +1,7 @@
 use Rattle.tenant_registry.proofs.Answered.{on_err}
 use Rattle.trace_service.specs.Shown.{nothing}
 use Rattle.trace_service.proofs.Shown.{figures_found}
-use Rattle.trace_service.proofs.admin_handler.AdminHandler.figures.Goals as goal
+use Rattle.trace_service.proofs.context.WorkerContext.figures.Goals as goal
 
 pub returns-in_err-tenants-clause-looks : goal.returns-in_err-tenants-clause-looks
 returns-in_err-tenants-clause-looks g c = on_err c.from_residual.result _ nothing

@@ -2,7 +2,7 @@ use Rattle.std.proofs.Common.{subst}
 use Rattle.tenant_registry.specs.Changed.{TellsRetiring}
 use Rattle.tenant_registry.proofs.Answered.{if_ok, if_told}
 use Rattle.trace_service.specs.Shown.{TellsGoing, asked, not_asked}
-use Rattle.trace_service.proofs.admin_handler.AdminHandler.retire.Goals as goal
+use Rattle.trace_service.proofs.admin_handler.ask_to_go.Goals as goal
 
 pub returns-in_default : goal.returns-in_default
 returns-in_default g c =

@@ -1,4 +1,4 @@
-use Rattle.trace_service.proofs.admin_handler.AdminHandler.counters.Goals as goal
+use Rattle.trace_service.proofs.context.WorkerContext.counters.Goals as goal
 
 pub returns-in-Ok-clause-looked : goal.returns-in-Ok-clause-looked
 returns-in-Ok-clause-looked g c =
