@@ -1,7 +1,7 @@
 //! Bodies of Protocol Buffers' own libraries (tests/otlp).
 
 use crate::listed::parts_of;
-use crate::texts::{bytes_of, words};
+use crate::texts::{bytes_of, ensure, words};
 use otlp_canonical::is_request_text;
 use otlp_vectors::{FAULTS, VECTORS};
 use std::alloc::Global;
@@ -24,7 +24,7 @@ fn is_so(alloc: Global, line: &str) -> Result<bool, Fail> {
 fn a_body_is_canonical_where_it_is_its_canonical_text(rt: HostRuntime) -> Result<(), Fail> {
     assert_eq!(rt; VECTORS.lines().count(), 195);
     for line in VECTORS.lines() {
-        assert!(rt; is_so(rt.alloc(), line)?, "{line}");
+        ensure(is_so(rt.alloc(), line)?, line)?;
     }
     Ok(())
 }
@@ -42,7 +42,7 @@ fn is_refused(alloc: Global, line: &str) -> Result<bool, Fail> {
 fn faulty_bodies_are_refused_for_their_fault(rt: HostRuntime) -> Result<(), Fail> {
     assert_eq!(rt; FAULTS.lines().count(), 80);
     for line in FAULTS.lines() {
-        assert!(rt; is_refused(rt.alloc(), line)?, "{line}");
+        ensure(is_refused(rt.alloc(), line)?, line)?;
     }
     Ok(())
 }

@@ -2,7 +2,7 @@
 
 ghost use Rattle.std.specs.Prelude.{◌<◌, ◌≤◌};
 
-use crate::texts::{bytes_of, words};
+use crate::texts::{bytes_of, ensure, words};
 use otlp_canonical::{is_request_text, is_resource_text, is_scope_text, is_span_text};
 use otlp_read::{
     ReadFault, read_request, read_resource, read_scope, read_span, request_is_typed,
@@ -309,21 +309,20 @@ fn is_so(alloc: Global, line: &str, canonical: bool) -> Result<bool, Fail> {
     Ok(is_canonical(kind, room, text.as_slice()) == canonical && again == canonical)
 }
 
-/// The first line whose text isn't so, but for those that say what follows.
-fn first_other<'a>(alloc: Global, lines: &'a str, canonical: bool) -> Result<&'a str, Fail> {
+/// The text of each line is so, but for those that say what follows.
+fn all_are_so(alloc: Global, lines: &str, canonical: bool) -> Result<(), Fail> {
     for line in lines.lines() {
-        if !line.starts_with('#') && !is_so(alloc, line, canonical)? {
-            return Ok(line);
+        if !line.starts_with('#') {
+            ensure(is_so(alloc, line, canonical)?, line)?;
         }
     }
-    Ok("")
+    Ok(())
 }
 
 #[test]
 fn texts_and_their_neighbours(rt: HostRuntime) -> Result<(), Fail> {
-    assert_eq!(rt; first_other(rt.alloc(), CANONICAL, true)?, "");
-    assert_eq!(rt; first_other(rt.alloc(), OTHERS, false)?, "");
-    Ok(())
+    all_are_so(rt.alloc(), CANONICAL, true)?;
+    all_are_so(rt.alloc(), OTHERS, false)
 }
 
 /// The fields of a span, each of them once and not at its default, by rising number.
@@ -345,6 +344,11 @@ const BODY: [u8; 59] = *b"\x0a\x39\x0a\x0c\x0a\x06\x12\x04\x0a\x02ab\x0a\0\x10\x
     \x4a\x09\x0a\x01k\x12\x04\x2a\x02\x0a\0\
     \x7a\x05\x12\x01m\x18\x02\x85\x01\x01\0\0\0\x1a\x03url";
 
+/// Whether a text is no request's, and is refused as one that was cut.
+fn is_cut(alloc: Global, text: &[u8]) -> bool {
+    !is_request_text(text) && matches!(read_request(alloc, text), Err(ReadFault::Truncated))
+}
+
 #[test]
 fn fronts_end_inside_a_field(rt: HostRuntime) {
     for end in 0..=SPAN.len() {
@@ -352,13 +356,7 @@ fn fronts_end_inside_a_field(rt: HostRuntime) {
         assert!(rt; is_span_text(&SPAN[..end], 98) == whole);
     }
     for end in 1..BODY.len() {
-        assert!(rt; !is_request_text(&BODY[..end]));
-        assert!(rt;
-            matches!(
-                read_request(rt.alloc(), &BODY[..end]),
-                Err(ReadFault::Truncated)
-            )
-        );
+        assert!(rt; is_cut(rt.alloc(), &BODY[..end]));
     }
 }
 

@@ -1,6 +1,6 @@
 //! Spans that are canonical but for defaults that are written out.
 
-use crate::texts::{bytes_of, is_found, words};
+use crate::texts::{bytes_of, ensure, is_found, words};
 use otlp_canonical::without_defaults;
 use std::alloc::Global;
 use std::test::Fail;
@@ -213,19 +213,24 @@ of_another_type 1a002000 2000\n\
 # The low 32 bits are none, which is no default as it is written.\n\
 a_count_of_more_bits 508080808010 none\n";
 
+/// Whether a text is so without its defaults in so much room.
+fn is_without(alloc: Global, text: &[u8], room: u32, wanted: &str) -> Result<bool, Fail> {
+    let found = without_defaults(alloc, text, room)?;
+    is_found(alloc, found, wanted)
+}
+
 /// Whether the line's text is so without its defaults.
 fn is_so(alloc: Global, line: &str) -> Result<bool, Fail> {
     let (_name, text, wanted) = words(line).ok_or("a line without three words")?;
     let text = bytes_of(alloc, text)?;
-    let found = without_defaults(alloc, text.as_slice(), 98)?;
-    is_found(alloc, found, wanted)
+    is_without(alloc, text.as_slice(), 98, wanted)
 }
 
 #[test]
 fn spans_without_their_defaults(rt: HostRuntime) -> Result<(), Fail> {
     for line in SPANS.lines() {
         if !line.starts_with('#') {
-            assert!(rt; is_so(rt.alloc(), line)?, "{line}");
+            ensure(is_so(rt.alloc(), line)?, line)?;
         }
     }
     Ok(())
@@ -236,8 +241,7 @@ fn there_has_to_be_room_for_the_span(rt: HostRuntime) -> Result<(), Fail> {
     // An empty parent, and an attribute whose value is an array: four levels.
     let text = *b"\x22\0\x4a\x04\x12\x02\x2a\0";
     for (room, wanted) in [(0u32, "none"), (3, "none"), (4, "4a0412022a00")] {
-        let found = without_defaults(rt.alloc(), &text, room)?;
-        assert!(rt; is_found(rt.alloc(), found, wanted)?);
+        ensure(is_without(rt.alloc(), &text, room, wanted)?, wanted)?;
     }
     Ok(())
 }
@@ -247,8 +251,7 @@ fn there_has_to_be_room_for_an_event(rt: HostRuntime) -> Result<(), Fail> {
     // A count of 0 in an event: two levels.
     let text = *b"\x5a\x02\x20\0";
     for (room, wanted) in [(0u32, "none"), (1, "none"), (2, "5a00")] {
-        let found = without_defaults(rt.alloc(), &text, room)?;
-        assert!(rt; is_found(rt.alloc(), found, wanted)?);
+        ensure(is_without(rt.alloc(), &text, room, wanted)?, wanted)?;
     }
     Ok(())
 }

@@ -1,6 +1,6 @@
 //! Spans that are canonical but for the order of their fields.
 
-use crate::texts::{bytes_of, is_found, words};
+use crate::texts::{bytes_of, ensure, is_found, words};
 use otlp_canonical::{canonical_copy, in_order};
 use std::alloc::Global;
 use std::test::Fail;
@@ -312,23 +312,33 @@ cut 2a016e0a013130 none\n\
 flags_cut 2a016e0a01318501000000 none\n\
 of_no_wire_type 2a016e0a013107 none\n";
 
+/// Whether a text is so in order in so much room.
+fn is_in_order(alloc: Global, text: &[u8], room: u32, wanted: &str) -> Result<bool, Fail> {
+    let found = in_order(alloc, text, room)?;
+    is_found(alloc, found, wanted)
+}
+
+/// Whether a text has this canonical copy.
+fn is_copied(alloc: Global, text: &[u8], wanted: &str) -> Result<bool, Fail> {
+    let found = canonical_copy(alloc, text, 98)?;
+    is_found(alloc, found, wanted)
+}
+
 /// Whether the line's text is so in order, and its canonical copy with it.
 fn is_so(alloc: Global, line: &str) -> Result<bool, Fail> {
     let (_name, text, wanted) = words(line).ok_or("a line without three words")?;
     let text = bytes_of(alloc, text)?;
-    let found = in_order(alloc, text.as_slice(), 98)?;
-    if !is_found(alloc, found, wanted)? {
-        return Ok(false);
-    }
-    let found = canonical_copy(alloc, text.as_slice(), 98)?;
-    is_found(alloc, found, wanted)
+    Ok(
+        is_in_order(alloc, text.as_slice(), 98, wanted)?
+            && is_copied(alloc, text.as_slice(), wanted)?,
+    )
 }
 
 #[test]
 fn spans_in_order(rt: HostRuntime) -> Result<(), Fail> {
     for line in SPANS.lines() {
         if !line.starts_with('#') {
-            assert!(rt; is_so(rt.alloc(), line)?, "{line}");
+            ensure(is_so(rt.alloc(), line)?, line)?;
         }
     }
     Ok(())
@@ -339,8 +349,7 @@ fn order_needs_room_for_the_span(rt: HostRuntime) -> Result<(), Fail> {
     // An attribute whose value is an array, before a trace id: four levels.
     let text = *b"\x4a\x04\x12\x02\x2a\0\x0a\x011";
     for (room, wanted) in [(0u32, "none"), (3, "none"), (4, "0a01314a0412022a00")] {
-        let found = in_order(rt.alloc(), &text, room)?;
-        assert!(rt; is_found(rt.alloc(), found, wanted)?);
+        ensure(is_in_order(rt.alloc(), &text, room, wanted)?, wanted)?;
     }
     Ok(())
 }

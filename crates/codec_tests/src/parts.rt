@@ -1,7 +1,7 @@
 //! Bodies whose parts were worked out by hand.
 
 use crate::listed::parts_of;
-use crate::texts::{bytes_of, words};
+use crate::texts::{bytes_of, ensure, words};
 use std::alloc::Global;
 use std::test::Fail;
 
@@ -112,7 +112,7 @@ fn has_parts(alloc: Global, line: &str) -> Result<bool, Fail> {
 fn bodies_have_the_parts_that_were_worked_out(rt: HostRuntime) -> Result<(), Fail> {
     assert_eq!(rt; BODIES.lines().count(), 30);
     for line in BODIES.lines() {
-        assert!(rt; has_parts(rt.alloc(), line)?, "{line}");
+        ensure(has_parts(rt.alloc(), line)?, line)?;
     }
     Ok(())
 }

@@ -1,6 +1,6 @@
 //! Resources and scopes whose fields may stand anywhere in them, and several times.
 
-use crate::texts::{bytes_of, is_found, words};
+use crate::texts::{bytes_of, ensure, is_found, words};
 use otlp_canonical::{resource_copy, scope_copy};
 use std::alloc::Global;
 use std::test::Fail;
@@ -44,12 +44,17 @@ name_with_a_long_length 0a81006e 0a016e\n\
 count_before_two_values_of_which_one_is_a_bool_of_two 20011a090a016b1200120210020a016e 0a016e1a070a016b120210012001\n\
 name_cut 0a026e none\n";
 
+/// Whether a resource has this copy in so much room.
+fn is_copied(alloc: Global, text: &[u8], room: u32, wanted: &str) -> Result<bool, Fail> {
+    let found = resource_copy(alloc, text, room)?;
+    is_found(alloc, found, wanted)
+}
+
 /// Whether the line's resource has that copy.
 fn is_resource(alloc: Global, line: &str) -> Result<bool, Fail> {
     let (_name, text, wanted) = words(line).ok_or("a line without three words")?;
     let text = bytes_of(alloc, text)?;
-    let found = resource_copy(alloc, text.as_slice(), 99)?;
-    is_found(alloc, found, wanted)
+    is_copied(alloc, text.as_slice(), 99, wanted)
 }
 
 /// Whether the line's scope has that copy.
@@ -63,7 +68,7 @@ fn is_scope(alloc: Global, line: &str) -> Result<bool, Fail> {
 #[test]
 fn resources_by_places(rt: HostRuntime) -> Result<(), Fail> {
     for line in RESOURCES.lines() {
-        assert!(rt; is_resource(rt.alloc(), line)?, "{line}");
+        ensure(is_resource(rt.alloc(), line)?, line)?;
     }
     Ok(())
 }
@@ -71,7 +76,7 @@ fn resources_by_places(rt: HostRuntime) -> Result<(), Fail> {
 #[test]
 fn scopes_by_places(rt: HostRuntime) -> Result<(), Fail> {
     for line in SCOPES.lines() {
-        assert!(rt; is_scope(rt.alloc(), line)?, "{line}");
+        ensure(is_scope(rt.alloc(), line)?, line)?;
     }
     Ok(())
 }
@@ -81,8 +86,7 @@ fn a_copy_needs_room(rt: HostRuntime) -> Result<(), Fail> {
     // An attribute whose value is an array, behind a count: four levels.
     let text = *b"\x10\x01\x0a\x04\x12\x02\x2a\0";
     for (room, wanted) in [(0u32, "none"), (3, "none"), (4, "0a0412022a001001")] {
-        let found = resource_copy(rt.alloc(), &text, room)?;
-        assert!(rt; is_found(rt.alloc(), found, wanted)?);
+        ensure(is_copied(rt.alloc(), &text, room, wanted)?, wanted)?;
     }
     Ok(())
 }

@@ -1,14 +1,14 @@
 //! What messages are read to, which is told by what is printed of them for debugging, and replies.
 
 use crate::canonical::SPAN;
-use crate::texts::bytes_of;
+use crate::texts::{bytes_of, ensure};
 use otlp_read::{
     Partial, ReadFault, attribute_values_inside, messages_inside, read_resource,
     read_resource_spans, read_response, read_scope_spans, read_span, responses_or_faults,
     values_are_sound, values_or_faults,
 };
 use otlp_trace::Span;
-use std::alloc::Global;
+use std::alloc::{AllocError, Global};
 use std::test::Fail;
 
 /// What `SPAN` is read to.
@@ -112,21 +112,31 @@ fn is_read_so(alloc: Global, line: &str) -> Result<bool, Fail> {
 fn values_of_attributes(rt: HostRuntime) -> Result<(), Fail> {
     for line in VALUES.lines() {
         if !line.starts_with('#') {
-            assert!(rt; is_read_so(rt.alloc(), line)?, "{line}");
+            ensure(is_read_so(rt.alloc(), line)?, line)?;
         }
     }
     Ok(())
 }
 
 /// 4 KB of unknown fields: the number 129 in the field 99, 1,024 times.
-#[test]
-fn many_unknown_fields(rt: HostRuntime) -> Result<(), Fail> {
-    let mut many = Vec::new(rt.alloc());
+fn many(alloc: Global) -> Result<Vec<u8>, AllocError> {
+    let mut many = Vec::new(alloc);
     for _ in 0..1024 {
         many.extend_from_slice(b"\x98\x06\x81\x01")?;
     }
-    let span = read_span(rt.alloc(), many.as_slice(), 98)?;
-    assert!(rt; many.len() == 4096 && span.unknown.as_slice() == many.as_slice());
+    Ok(many)
+}
+
+/// Whether a span keeps the fields of a text as unknown ones.
+fn is_unknown(alloc: Global, text: &[u8]) -> Result<bool, Fail> {
+    let span = read_span(alloc, text, 98)?;
+    Ok(text.len() == 4096 && span.unknown.as_slice() == text)
+}
+
+#[test]
+fn many_unknown_fields(rt: HostRuntime) -> Result<(), Fail> {
+    let many = many(rt.alloc())?;
+    assert!(rt; is_unknown(rt.alloc(), many.as_slice())?);
     Ok(())
 }
 

@@ -18,6 +18,11 @@ pub fn bytes_of(alloc: Global, digits: &str) -> Result<Vec<u8>, Fail> {
     Ok(hex::decode(alloc, digits)?)
 }
 
+/// No error where this holds, and else the line as the error.
+pub fn ensure(holds: bool, line: &str) -> Result<(), Fail> {
+    if holds { Ok(()) } else { Err(Fail::new(line)) }
+}
+
 /// Whether this was found: a text, or none for `none`.
 pub fn is_found(alloc: Global, found: Option<Vec<u8>>, wanted: &str) -> Result<bool, Fail> {
     match found {

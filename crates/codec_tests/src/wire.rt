@@ -1,6 +1,6 @@
 //! Texts and values from outside: the encoding guide's own examples, and texts spelled by hand.
 
-use crate::texts::bytes_of;
+use crate::texts::{bytes_of, ensure};
 use pb_wire::{Field, Value, WireFault, WireType, next_field, put_bytes, put_tag, put_varint};
 use std::alloc::{AllocError, Global};
 use std::test::Fail;
@@ -55,38 +55,38 @@ fdffffff0f00000000 536870911 Four([0, 0, 0, 0]);\n\
 0b0880 1: the text ends inside a field";
 
 /// What is read of a text.
-fn told(alloc: Global, text: &[u8]) -> Result<String, Fail> {
+fn told(alloc: Global, text: &[u8]) -> Result<String, AllocError> {
     let mut told = String::new(alloc);
     let mut left = text;
     loop {
         match next_field(left, 0) {
             Ok(None) => return Ok(told),
             Ok(Some((found, rest))) => {
-                let field = format!(in alloc; "{} {:?};", found.number, found.value)?;
-                told.push_str(field.as_str())?;
+                told = format!(in alloc; "{told}{} {:?};", found.number, found.value)?;
                 left = rest;
             }
-            Err(fault) => {
-                let fault = format!(in alloc; "{}: {fault}", fault.number())?;
-                told.push_str(fault.as_str())?;
-                return Ok(told);
-            }
+            Err(fault) => return format!(in alloc; "{told}{}: {fault}", fault.number()),
         }
     }
+}
+
+/// Whether a text is read so.
+fn is_told(alloc: Global, text: &[u8], wanted: &str) -> Result<bool, AllocError> {
+    Ok(told(alloc, text)?.as_str() == wanted)
 }
 
 /// Whether a line's text is read so.
 fn is_read_so(alloc: Global, line: &str) -> Result<bool, Fail> {
     let (digits, wanted) = line.split_once(' ').ok_or("a line without two words")?;
     let text = bytes_of(alloc, digits)?;
-    Ok(told(alloc, text.as_slice())?.as_str() == wanted)
+    Ok(is_told(alloc, text.as_slice(), wanted)?)
 }
 
 #[test]
 fn texts_are_read_field_by_field(rt: HostRuntime) -> Result<(), Fail> {
     for line in TEXTS.lines() {
         if !line.starts_with('#') {
-            assert!(rt; is_read_so(rt.alloc(), line)?, "{line}");
+            ensure(is_read_so(rt.alloc(), line)?, line)?;
         }
     }
     Ok(())
@@ -105,7 +105,7 @@ fn nested(alloc: Global, levels: usize) -> Result<Vec<u8>, AllocError> {
 }
 
 /// Whether so many groups, one in another, are nested too deep where they stand so many levels down.
-fn are_too_deep(alloc: Global, groups: usize, levels: u32) -> Result<bool, Fail> {
+fn are_too_deep(alloc: Global, groups: usize, levels: u32) -> Result<bool, AllocError> {
     let text = nested(alloc, groups)?;
     Ok(next_field(&text, levels) == Err(WireFault::TooDeep))
 }
@@ -119,28 +119,39 @@ fn is_group(text: &[u8], inside: &[u8]) -> bool {
     next_field(text, 0) == Ok(Some((field, b"".as_slice())))
 }
 
+/// Whether a hundred groups are one in another.
+fn are_nested(alloc: Global) -> Result<bool, AllocError> {
+    let sound = nested(alloc, 100)?;
+    Ok(sound.len() == 400 && is_group(&sound, &sound[2..398]))
+}
+
+/// Whether it is told of one more that they are nested too deep.
+fn is_one_too_deep(alloc: Global) -> Result<bool, AllocError> {
+    let deep = nested(alloc, 101)?;
+    is_told(alloc, &deep, "5: nested deeper than 100 levels")
+}
+
 #[test]
 fn a_hundred_groups_nest_and_no_more(rt: HostRuntime) -> Result<(), Fail> {
-    let sound = nested(rt.alloc(), 100)?;
-    assert!(rt; sound.len() == 400 && is_group(&sound, &sound[2..398]));
+    assert!(rt; are_nested(rt.alloc())? && is_one_too_deep(rt.alloc())?);
     assert!(rt; are_too_deep(rt.alloc(), 100, 1)? && are_too_deep(rt.alloc(), 10_000, 0)?);
-    let deep = nested(rt.alloc(), 101)?;
-    assert_eq!(rt;
-        told(rt.alloc(), &deep)?.as_str(),
-        "5: nested deeper than 100 levels"
-    );
     Ok(())
+}
+
+/// Appends a number, a text and an empty text.
+fn put_examples(out: &mut Vec<u8>) -> Result<(), AllocError> {
+    put_tag(out, 1, WireType::Varint)?;
+    put_varint(out, 150)?;
+    put_tag(out, 2, WireType::Bytes)?;
+    put_bytes(out, b"testing")?;
+    put_tag(out, 3, WireType::Bytes)?;
+    put_bytes(out, b"")
 }
 
 #[test]
 fn the_encoding_guides_examples_are_written(rt: HostRuntime) -> Result<(), Fail> {
     let mut out = Vec::new(rt.alloc());
-    put_tag(&mut out, 1, WireType::Varint)?;
-    put_varint(&mut out, 150)?;
-    put_tag(&mut out, 2, WireType::Bytes)?;
-    put_bytes(&mut out, b"testing")?;
-    put_tag(&mut out, 3, WireType::Bytes)?;
-    put_bytes(&mut out, b"")?;
+    put_examples(&mut out)?;
     assert!(rt; out.as_slice() == b"\x08\x96\x01\x12\x07testing\x1a\x00".as_slice());
     Ok(())
 }
