@@ -99,6 +99,24 @@ impl SpanOrigin {
         })
     }
 
+    /// The same texts, which are shared: no byte is looked at. It takes no memory, and is refused only where the owners
+    /// can't be counted any more.
+    pub fn shared(&self) -> Result<SpanOrigin, AllocError>
+        ensures { IfOk result (λ origin. origin ≡ self.now) }
+    {
+        let resource = self.resource.shared()?;
+        let resource_schema_url = self.resource_schema_url.shared()?;
+        let scope = self.scope.shared()?;
+        let scope_schema_url = self.scope_schema_url.shared()?;
+        Ok(SpanOrigin {
+            resource,
+            resource_schema_url,
+            scope,
+            scope_schema_url,
+            ..*self
+        })
+    }
+
     /// Which of the body's origins is the first one of the same resource spans. Those of one resource spans have the
     /// same resource, and the same URL of its schema.
     pub fn first(&self) -> u32

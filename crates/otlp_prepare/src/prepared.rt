@@ -102,8 +102,9 @@ impl Prepared {
     ghost use Rattle.otlp_prepare.specs.Prepared.{AreReady};
     ghost use Rattle.otlp_prepare.specs.Equal.{arrival_eq, same_policies, same_tenant, same_front};
 
-    /// These spans of a tenant's body with their origins, whose notes are for these policies.
-    pub(crate) fn of(
+    /// These valid spans of a tenant's body with their origins, whose notes are for these policies, beside so many that
+    /// were left out: [`prepare`](crate::prepare) makes it so of a body, and who kept the parts of one has it again.
+    pub fn of(
         tenant: u32,
         policies: ArcSlice<PolicySpec>,
         origins: Vec<SpanOrigin>,
@@ -134,6 +135,13 @@ impl Prepared {
         ensures { result ≡ self.now.tenant }
     {
         self.tenant
+    }
+
+    /// The policies that the body was prepared for, which are shared.
+    pub fn policies(&self) -> &ArcSlice<PolicySpec>
+        ensures { map policy_view (arc_slice_items result.now) ≡ self.now.policies }
+    {
+        &self.policies
     }
 
     /// Whether the body was prepared for these policies.
