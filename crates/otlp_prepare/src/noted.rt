@@ -65,7 +65,7 @@ fn text_if(there: bool, text: &SharedBytes) -> Option<&SharedBytes>
 impl SpanOrigin {
     /// These texts, as far as they are there, with the index of the first origin of the same resource spans. Another
     /// one stands in the place of those that are missing.
-    pub(crate) fn of(
+    pub fn of(
         first: u32,
         other: &SharedBytes,
         resource: Option<SharedBytes>,

@@ -28,7 +28,7 @@ impl Model for Prepared {
     ghost use Rattle.std.specs.Prelude.{◌≤◌, length, map};
     ghost use Rattle.std.specs.Arc.{arc_slice_items};
     ghost use Rattle.tail_settings.specs.Policy.{policy_view};
-    ghost use Rattle.otlp_prepare.specs.Arrivals.{arrivals_in};
+    ghost use Rattle.otlp_prepare.specs.Arrivals.{arrivals_in, AreGrouped};
     ghost use Rattle.otlp_prepare.specs.Prepared.{PreparedData, AreReady};
 
     ghost Value = { PreparedData };
@@ -42,7 +42,7 @@ impl Model for Prepared {
 
     ghost invariant = { λ p.
         AreReady (map policy_view (arc_slice_items p.policies)) p.origins.items p.spans.items
-        × (length p.origins.items ≤ length p.spans.items) };
+        × (length p.origins.items ≤ length p.spans.items) × AreGrouped p.origins.items };
 }
 
 impl PartialEq for Prepared {
@@ -98,7 +98,7 @@ fn are_same_spans(
 impl Prepared {
     ghost use Rattle.std.specs.Prelude.{◌≤◌, map};
     ghost use Rattle.tail_settings.specs.Policy.{policy_view};
-    ghost use Rattle.otlp_prepare.specs.Arrivals.{arrivals_in};
+    ghost use Rattle.otlp_prepare.specs.Arrivals.{arrivals_in, AreGrouped};
     ghost use Rattle.otlp_prepare.specs.Prepared.{AreReady};
     ghost use Rattle.otlp_prepare.specs.Equal.{arrival_eq, same_policies, same_tenant, same_front};
 
@@ -114,6 +114,7 @@ impl Prepared {
         requires ready { AreReady (map policy_view (arc_slice_items policies)) origins.items
             spans.items }
         requires sparing { length origins.items ≤ length spans.items }
+        requires grouped { AreGrouped origins.items }
         ensures { result ≡ record {
           tenant = tenant;
           policies = map policy_view (arc_slice_items policies);
@@ -183,6 +184,7 @@ impl Prepared {
         ensures arrivals { arrivals_in result.0.now result.1.now ≡ self.now.arrivals }
         ensures ready { AreReady self.now.policies result.0.now result.1.now }
         ensures sparing { length result.0.now ≤ length result.1.now }
+        ensures grouped { AreGrouped result.0.now }
     {
         (self.origins.as_slice(), self.spans.as_slice())
     }

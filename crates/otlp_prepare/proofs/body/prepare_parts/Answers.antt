@@ -21,3 +21,6 @@ returns g c = λ v typed nested same.
     let shared : arc_slice_items c.in_ok-shared.shared ≡ arc_slice_items c.args.section.now.tail_sampling.policies = c.in_ok-shared.ensures.cases in
     let taken = ap (λ (ps : List PolicySpec). map policy_view ps) shared in
     all_prepared c.read_spans_are_viewed.ensures.facts v (body_parts_view c.args.body) c.of-policies.result (map policy_view (arc_slice_items c.in_ok-shared.shared)) c.in_ok-found.found.origins.items c.in_ok-found.found.parts.items c.in_ok-spans.spans.items c.args.tenant (section_view c.args.section.now) c.of.result typed nested same c.in_ok-found.ensures.found c.in_ok-found.ensures.arrivals c.in_ok-spans.ensures taken c.of.ensures
+
+pub of-requires-clause-grouped : goal.of-requires-clause-grouped
+of-requires-clause-grouped g c = c.in_ok-found.ensures.grouped
