@@ -31,6 +31,7 @@ KNOWN = [
     ("span_batcher/src/encode.rt", "put_front", 1, "a length has 64 bits, and what is to follow may have more bytes"),
     ("text_pool/src/pool.rt", "put", 1, "the same of a text"),
     ("otlp_prepare/src/body_spans.rt", "next_index", 1, "an origin's index has 32 bits, and there are more origins"),
+    ("audit_log/src/body.rt", "packed", 2, "an origin's index and a text's length have 32 bits, and these have more"),
     ("tenant_pipeline/src/outbox.rt", "offer", 1, "the queue gives the batch back with its want of memory"),
     ("tenant_pipeline/src/unsent.rt", "write", 1, "the queue gives the batch back with its want of memory"),
     ("tail_settings/src/parsed.rt", "parse", 1, "the TOML reader's error says that it is want of memory"),

@@ -1,9 +1,10 @@
 //! The log of a shard.
 
-ghost use Rattle.std.specs.Prelude.{◌≡◌, ◌<◌, ◌+◌, ◌^◌, ◌++◌, ◌∷◌, [], map, length, true, false, None, IfOk, OnOk, OnErr, IsSome};
+ghost use Rattle.std.specs.Prelude.{◌≡◌, ◌<◌, ◌+◌, ◌^◌, ◌++◌, ◌∷◌, [], length, true, false, None, IfOk, OnOk, OnErr, IsSome};
 ghost use Rattle.std.specs.Prelude.{vec_len, vec_capacity};
 ghost use Rattle.std.specs.Arc.{arc_value};
 
+use audit_log::PackedEntry;
 use machine_hub::{Entry, StepLog};
 use shard_machine::{LoggedStep, ShardMachine, WordSource};
 use std::alloc::{AllocError, Global};
@@ -14,12 +15,12 @@ use tenant_shard::{Outcome, Step};
 /// that take memory.
 const SPARE: usize = 67_108_864;
 
-/// Keeps each entry, or nothing, as it was opened.
+/// Keeps each entry, or nothing, as it was opened. The texts of entries are packed.
 #[derive(Drop)]
 pub struct OptionalLog {
     pub keeps: bool,
     /// Empty where it doesn't keep.
-    pub kept: Vec<Arc<Entry<LoggedStep, Outcome>, Global>>,
+    pub kept: Vec<PackedEntry>,
     // The next entry's memory, which is asked for before its step. What is in it counts for nothing.
     next: Option<Arc<Entry<LoggedStep, Outcome>, Global>>,
 }
@@ -27,7 +28,7 @@ pub struct OptionalLog {
 impl OptionalLog {
     /// A log without entries.
     pub fn new(alloc: Global, keeps: bool) -> OptionalLog
-        ensures { (result.keeps ≡ keeps) × (map arc_value result.kept.items ≡ []) }
+        ensures { (result.keeps ≡ keeps) × (result.kept.items ≡ []) }
     {
         OptionalLog {
             keeps,
@@ -38,10 +39,7 @@ impl OptionalLog {
 }
 
 impl StepLog<ShardMachine> for OptionalLog {
-    ghost use Rattle.std.specs.Prelude.{map};
-    ghost use Rattle.std.specs.Arc.{arc_value};
-
-    ghost entries = { λ s. map arc_value s.kept.items };
+    ghost entries = { λ s. s.kept.items };
 
     ghost keeping = { λ s. s.keeps };
 
@@ -50,9 +48,9 @@ impl StepLog<ShardMachine> for OptionalLog {
     }
 
     fn room(&mut self, alloc: Global, _number: u32) -> Result<(), AllocError>
-        ensures same { (map arc_value self.new.kept.items ≡ map arc_value self.old.kept.items)
+        ensures same { (self.new.kept.items ≡ self.old.kept.items)
             × (self.new.keeps ≡ self.old.keeps) }
-        ensures room { OnOk result (length (map arc_value self.new.kept.items) + 1 < 2 ^ 64) }
+        ensures room { OnOk result (length (self.new.kept.items) + 1 < 2 ^ 64) }
         ensures grown { OnOk result ((self.old.keeps ≡ true)
             → vec_len self.new.kept < vec_capacity self.new.kept) }
         ensures next { OnOk result ((self.old.keeps ≡ true) → IsSome self.new.next) }
@@ -76,11 +74,11 @@ impl StepLog<ShardMachine> for OptionalLog {
         ensures same { self.new.keeps ≡ self.old.keeps }
         ensures kept { IfOk result (λ kept. (arc_value kept ≡ entry)
             × ((self.old.keeps ≡ true) →
-            map arc_value self.new.kept.items ≡ map arc_value self.old.kept.items ++ entry ∷ [])) }
+            self.new.kept.items ≡ self.old.kept.items ++ entry ∷ [])) }
         ensures nothing { (self.old.keeps ≡ false) →
-            map arc_value self.new.kept.items ≡ map arc_value self.old.kept.items }
+            self.new.kept.items ≡ self.old.kept.items }
         ensures on_refusal { OnErr result
-            (map arc_value self.new.kept.items ≡ map arc_value self.old.kept.items) }
+            (self.new.kept.items ≡ self.old.kept.items) }
         ensures used { self.new.next ≡ None }
     {
         let theirs = match self.next.take() {
@@ -88,7 +86,7 @@ impl StepLog<ShardMachine> for OptionalLog {
             None => Arc::new(alloc, entry)?,
         };
         if self.keeps {
-            let mine = Arc::try_clone(&theirs)?;
+            let mine = PackedEntry::of(alloc, &theirs)?;
             self.kept.push(mine)?;
         }
         Ok(theirs)

@@ -6,11 +6,12 @@ ghost use Rattle.machine_hub.specs.Hub.{slots_of};
 use crate::calls::{Made, made, stepped};
 use crate::outcomes::{is_entry, is_outcome, is_waiting};
 use crate::story::{Line, SETTINGS, STORY, line_of};
+use audit_log::PackedEntry;
 use decision_cache::HashKeys;
-use shared_hub::{Caller, Entry, HubKeeper, Receipt, ShardLog, SharedHub};
+use shared_hub::{Caller, HubKeeper, Receipt, ShardLog, SharedHub};
 use std::alloc::Global;
 use std::process::Abort;
-use std::sync::{Arc, Wait};
+use std::sync::Wait;
 use std::test::Fail;
 use std::thread::Threads;
 use tail_settings::{Settings, load};
@@ -85,13 +86,21 @@ fn follow<R: Threads + Wait + Sync>(
     (count, "")
 }
 
+/// Whether the entry, unpacked, is that of a line.
+fn is_of_line(alloc: Global, kept: &PackedEntry, line: &Line<'_>) -> bool {
+    match kept.entry(alloc) {
+        Ok(entry) => is_entry(alloc, &entry, line),
+        Err(_refused) => false,
+    }
+}
+
 /// Whether a log has the story's calls at this shard, in their order, and no others.
-fn has_calls(alloc: Global, kept: &[Arc<Entry, Global>], shard: &str) -> bool {
+fn has_calls(alloc: Global, kept: &[PackedEntry], shard: &str) -> bool {
     let mut next = 0;
     for text in STORY.lines() {
         let line = line_of(text);
         if line.shard == shard {
-            if next >= kept.len() || !is_entry(alloc, &kept[next], &line) {
+            if next >= kept.len() || !is_of_line(alloc, &kept[next], &line) {
                 return false;
             }
             next += 1;
@@ -101,7 +110,7 @@ fn has_calls(alloc: Global, kept: &[Arc<Entry, Global>], shard: &str) -> bool {
 }
 
 /// Whether a log has as many entries as receipts were given, and where it has any, the story's calls at this shard.
-fn is_kept(alloc: Global, kept: &[Arc<Entry, Global>], made: u64, given: u64, shard: &str) -> bool {
+fn is_kept(alloc: Global, kept: &[PackedEntry], made: u64, given: u64, shard: &str) -> bool {
     made == given && (made == 0 && kept.is_empty() || has_calls(alloc, kept, shard))
 }
 

@@ -1,0 +1,82 @@
+-- The same origins, however they are kept.
+use Rattle.std.proofs.Common.{◌≡◌, ℕ, zero, suc, ◌<◌, ◌≤◌, true, List, [], ◌∷◌, length, map, refl, ap, ◌∙◌, sym, subst, arith}
+use Rattle.std.specs.Prelude.{slice_index_or}
+use Rattle.std.proofs.lemmas.List.{length-map}
+use Rattle.span_pool.specs.Stored.{Origin as OriginData}
+use Rattle.tail_settings.specs.Policy.{PolicyData}
+use Rattle.tail_policy.specs.Note.{note_of}
+use Rattle.tenant_rules.specs.Arrivals.{Arrival, is_valid, trace_of}
+use Rattle.otlp_prepare.specs.declared.noted.NotedSpan.{NotedSpan}
+use Rattle.otlp_prepare.specs.Origin.{OriginTexts}
+use Rattle.otlp_prepare.specs.Arrivals.{no_origin, origin_at, first_at, HasSameResource, AreGrouped, IsGrouped, arrival_with, arrival_in, arrivals_in}
+use Rattle.otlp_prepare.specs.Prepared.{IsReady, AreReady}
+use Rattle.audit_log.specs.Origins.{around}
+
+around_at : (copies origins : List OriginTexts) → map around copies ≡ map around origins → (i : ℕ) → around (slice_index_or copies i no_origin) ≡ around (slice_index_or origins i no_origin)
+around_at [] [] same i = refl
+around_at [] (o ∷ os) same i = absurd (cc)
+around_at (c ∷ cs) [] same i = absurd (cc)
+around_at (c ∷ cs) (o ∷ os) same zero = cc
+around_at (c ∷ cs) (o ∷ os) same (suc i) =
+    let rest : map around cs ≡ map around os = cc in
+    around_at cs os rest i
+
+module _ (copies origins : List OriginTexts) (same : map around copies ≡ map around origins) where
+  as_many : length copies ≡ length origins
+  as_many = sym (length-map copies around) ∙ (ap (λ (xs : List (ℕ × OriginData)). length xs) same ∙ length-map origins around)
+
+  origin_is : (i : ℕ) → origin_at copies i ≡ origin_at origins i
+  origin_is i = ap (λ (p : ℕ × OriginData). p.1) (around_at copies origins same i)
+
+  first_is : (i : ℕ) → first_at copies i ≡ first_at origins i
+  first_is i = ap (λ (p : ℕ × OriginData). p.0) (around_at copies origins same i)
+
+  arrival_is : (s : NotedSpan) → arrival_in copies s ≡ arrival_in origins s
+  arrival_is s = ap (λ (o : OriginData). arrival_with o s.text) (origin_is s.origin)
+
+  -- the same arrivals
+  pub arrivals_are : (spans : List NotedSpan) → arrivals_in copies spans ≡ arrivals_in origins spans
+  arrivals_are [] = refl
+  arrivals_are (s ∷ ss) = ap (λ (a : Arrival). a ∷ arrivals_in copies ss) (arrival_is s) ∙ ap (λ (others : List Arrival). arrival_in origins s ∷ others) (arrivals_are ss)
+
+  same_resource : (i j : ℕ) → HasSameResource (origin_at origins i) (origin_at origins j) → HasSameResource (origin_at copies i) (origin_at copies j)
+  same_resource i j both =
+      subst (λ (o : OriginData). HasSameResource o (origin_at copies j)) (sym (origin_is i))
+      (subst (λ (o : OriginData). HasSameResource (origin_at origins i) o) (sym (origin_is j)) both)
+
+  within_too : (i : ℕ) → i < length copies → i < length origins
+  within_too i within = subst (λ (n : ℕ). i < n) as_many within
+
+  -- grouped as they were
+  pub are_grouped : AreGrouped origins → AreGrouped copies
+  are_grouped was = λ i within.
+      let old = was i (within_too i within) in
+      let first = first_is i in
+      let most = old.0 in (
+        omega (arith, first, most),
+        subst (λ (k : ℕ). HasSameResource (origin_at copies i) (origin_at copies k)) (sym first) (same_resource i (first_at origins i) old.1),
+      )
+
+  group_is : (index : ℕ) → IsGrouped origins index → IsGrouped copies index
+  group_is index was = λ other within firsts. same_resource other index (was other (within_too other within) (sym (first_is other) ∙ (firsts ∙ first_is index)))
+
+  is_ready : (policies : List PolicyData) (s : NotedSpan) → IsReady policies origins s → IsReady policies copies s
+  is_ready policies s was =
+      let is = arrival_is s in
+      record {
+        note = was.note ∙ ap (λ (a : Arrival). note_of policies a.facts) (sym is);
+        trace = was.trace ∙ ap (λ (a : Arrival). trace_of a) (sym is);
+        valid = ap (λ (a : Arrival). is_valid a) is ∙ was.valid;
+        within = subst (λ (n : ℕ). s.origin < n) (sym as_many) was.within;
+        grouped = group_is s.origin was.grouped;
+        short = was.short;
+      }
+
+  -- ready as they were
+  pub are_ready : (policies : List PolicyData) (spans : List NotedSpan) → AreReady policies origins spans → AreReady policies copies spans
+  are_ready policies [] was = tt
+  are_ready policies (s ∷ ss) was = (is_ready policies s was.0, are_ready policies ss was.1)
+
+  -- and no more than they were
+  pub as_few : (n : ℕ) → length origins ≤ n → length copies ≤ n
+  as_few n few = subst (λ (m : ℕ). m ≤ n) (sym as_many) few

@@ -1,0 +1,2 @@
+mod Around
+mod Spans
