@@ -1,16 +1,16 @@
 -- The same origins, however they are kept.
-use Rattle.std.proofs.Common.{◌≡◌, ℕ, zero, suc, ◌<◌, ◌≤◌, true, List, [], ◌∷◌, length, map, refl, ap, ◌∙◌, sym, subst, arith}
+use Rattle.std.proofs.Common.{◌≡◌, ℕ, zero, suc, ◌<◌, ◌≤◌, min, true, List, [], ◌∷◌, length, map, take, get_or, refl, ap, ◌∙◌, sym, subst, arith}
 use Rattle.std.specs.Prelude.{slice_index_or}
-use Rattle.std.proofs.lemmas.List.{length-map}
+use Rattle.std.proofs.lemmas.List.{length-map, length-take, get_or-take, get_or_default}
 use Rattle.span_pool.specs.Stored.{Origin as OriginData}
 use Rattle.tail_settings.specs.Policy.{PolicyData}
 use Rattle.tail_policy.specs.Note.{note_of}
 use Rattle.tenant_rules.specs.Arrivals.{Arrival, is_valid, trace_of}
 use Rattle.otlp_prepare.specs.declared.noted.NotedSpan.{NotedSpan}
 use Rattle.otlp_prepare.specs.Origin.{OriginTexts}
-use Rattle.otlp_prepare.specs.Arrivals.{no_origin, origin_at, first_at, HasSameResource, AreGrouped, IsGrouped, arrival_with, arrival_in, arrivals_in}
+use Rattle.otlp_prepare.specs.Arrivals.{no_origin, origin_at, first_at, origin_view, HasSameResource, AreGrouped, IsGrouped, arrival_with, arrival_in, arrivals_in}
 use Rattle.otlp_prepare.specs.Prepared.{IsReady, AreReady}
-use Rattle.audit_log.specs.Origins.{around}
+use Rattle.audit_log.specs.Origins.{around, HasItsResource}
 
 around_at : (copies origins : List OriginTexts) → map around copies ≡ map around origins → (i : ℕ) → around (slice_index_or copies i no_origin) ≡ around (slice_index_or origins i no_origin)
 around_at [] [] same i = refl
@@ -80,3 +80,19 @@ module _ (copies origins : List OriginTexts) (same : map around copies ≡ map a
   -- and no more than they were
   pub as_few : (n : ℕ) → length origins ≤ n → length copies ≤ n
   as_few n few = subst (λ (m : ℕ). m ≤ n) (sym as_many) few
+
+-- the first origin of this one's resource spans has its resource, also among those that were copied so far
+pub first_has : (copies origins : List OriginTexts) (i : ℕ) (o : OriginTexts) → AreGrouped origins → i < length origins → o ≡ get_or origins i o → map around copies ≡ map around (take i origins) → HasItsResource o copies
+first_has copies origins i o grouped within is same = λ there.
+    let few : length copies ≡ min i (length origins) = as_many copies (take i origins) same ∙ length-take i origins in
+    let before : o.first < i = omega (arith, there, few) in
+    let is_here : get_or origins i no_origin ≡ o = get_or_default origins i no_origin o within ∙ sym is in
+    let mine = grouped i within in
+    let at : first_at origins i ≡ o.first = ap (λ (x : OriginTexts). x.first) is_here in
+    let copied : origin_at copies o.first ≡ origin_at origins o.first =
+    origin_is copies (take i origins) same o.first ∙ ap (λ (x : OriginTexts). origin_view x) (get_or-take i origins o.first no_origin before) in
+    let both : HasSameResource (origin_at origins i) (origin_at origins o.first) = subst (λ (k : ℕ). HasSameResource (origin_at origins i) (origin_at origins k)) at mine.1 in
+    record {
+      resource = ap (λ (x : OriginData). x.resource) copied ∙ (sym both.resource ∙ ap (λ (x : OriginTexts). (origin_view x).resource) is_here);
+      schema_url = ap (λ (x : OriginData). x.resource_schema_url) copied ∙ (sym both.schema_url ∙ ap (λ (x : OriginTexts). (origin_view x).resource_schema_url) is_here);
+    }

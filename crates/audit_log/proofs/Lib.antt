@@ -1,2 +1,3 @@
 mod Around
 mod Spans
+mod Whole

@@ -137,6 +137,19 @@ fn with_texts(
     Ok(all)
 }
 
+/// The spans with their texts, in memory of their own.
+fn unpacked(
+    alloc: Global,
+    texts: &PackedText,
+    spans: &[PackedSpan],
+) -> Result<Vec<NotedSpan>, AllocError>
+    requires { texts_size spans.now ≤ length texts.now }
+    ensures { IfOk result (λ all. all.items ≡ spans_from texts.now spans.now) }
+{
+    let texts = texts.unpacked(alloc)?;
+    with_texts(alloc, texts, spans)
+}
+
 impl PackedBody {
     /// Packs a body that was prepared. The policies are shared with it; what stands round spans is copied.
     pub fn of(alloc: Global, prepared: &Prepared) -> Result<PackedBody, AllocError>
@@ -157,19 +170,11 @@ impl PackedBody {
         })
     }
 
-    /// The spans with their texts, in memory of their own.
-    fn noted(&self, alloc: Global) -> Result<Vec<NotedSpan>, AllocError>
-        ensures { IfOk result (λ spans. spans.items ≡ spans_from self.texts self.spans.items) }
-    {
-        let texts = self.texts.unpacked(alloc)?;
-        with_texts(alloc, texts, self.spans.as_slice())
-    }
-
     /// The body as it was prepared, in memory of its own.
     pub fn prepared(&self, alloc: Global) -> Result<Prepared, AllocError>
         ensures { IfOk result (λ prepared. prepared ≡ self.now) }
     {
-        let spans = self.noted(alloc)?;
+        let spans = unpacked(alloc, &self.texts, self.spans.as_slice())?;
         let origins = shared(alloc, self.origins.as_slice())?;
         let policies = self.policies.clone()?;
         Ok(Prepared::of(self.tenant, policies, origins, spans, self.invalid))
