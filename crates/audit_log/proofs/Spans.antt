@@ -6,7 +6,7 @@ use Rattle.std.proofs.Math.ListN.{drop_of_length-le}
 use Rattle.std.proofs.Math.Seq.{take-append_seam, drop-append_seam}
 use Rattle.otlp_prepare.specs.declared.noted.NotedSpan.{NotedSpan}
 use Rattle.audit_log.specs.declared.body.PackedSpan.{PackedSpan}
-use Rattle.audit_log.specs.Bodies.{without_text, span_from, spans_from, texts_size}
+use Rattle.audit_log.specs.Bodies.{without_text, spans_from, texts_size}
 
 abbrev pub text_in : NotedSpan → List ℕ
 text_in s = s.text

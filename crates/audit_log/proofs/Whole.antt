@@ -1,5 +1,5 @@
 -- A body that is packed is the body.
-use Rattle.std.proofs.Common.{◌≡◌, ℕ, ◌≤◌, List, length, map, flat_map, refl, ap, ◌∙◌, sym, subst, arith}
+use Rattle.std.proofs.Common.{◌≡◌, ℕ, ◌≤◌, List, length, map, flat_map, ap, ◌∙◌, sym, subst, arith}
 use Rattle.tail_settings.specs.Policy.{PolicyData}
 use Rattle.tenant_rules.specs.Arrivals.{Arrival}
 use Rattle.otlp_prepare.specs.declared.noted.NotedSpan.{NotedSpan}

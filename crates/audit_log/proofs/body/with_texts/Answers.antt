@@ -1,4 +1,4 @@
-use Rattle.std.proofs.Common.{rules, ◌≡◌, ◌≤◌, ◌+◌, ◌++◌, List, ℕ, length, arith, subst, sym, ap}
+use Rattle.std.proofs.Common.{rules, ◌++◌, List, ℕ, length, arith, ap}
 use Rattle.otlp_prepare.specs.declared.noted.NotedSpan.{NotedSpan}
 use Rattle.audit_log.specs.Bodies.{spans_from}
 use Rattle.audit_log.proofs.Spans.{next_fits, others_fit, one_made, all_made}

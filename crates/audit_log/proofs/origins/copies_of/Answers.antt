@@ -1,4 +1,4 @@
-use Rattle.std.proofs.Common.{◌≡◌, map, take, ap, ◌∙◌}
+use Rattle.std.proofs.Common.{map, ap, ◌∙◌}
 use Rattle.otlp_prepare.specs.Origin.{OriginTexts}
 use Rattle.std.specs.Prelude.{List}
 use Rattle.audit_log.specs.Origins.{around}

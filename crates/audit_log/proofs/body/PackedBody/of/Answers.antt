@@ -1,5 +1,4 @@
-use Rattle.std.proofs.Common.{List, ap, sym, ◌∙◌, map}
-use Rattle.std.specs.Arc.{arc_slice_items}
+use Rattle.std.proofs.Common.{List, ap, ◌∙◌, map}
 use Rattle.tail_settings.specs.Policy.{policy_view}
 use Rattle.tail_settings.specs.declared.policy.PolicySpec.{PolicySpec}
 use Rattle.audit_log.proofs.Whole.{same_body, all_arrive, all_ready}
