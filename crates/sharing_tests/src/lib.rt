@@ -25,6 +25,8 @@ mod log_tests;
 #[cfg(test)]
 mod outcomes;
 #[cfg(test)]
+mod packed_tests;
+#[cfg(test)]
 mod story;
 #[cfg(test)]
 mod story_tests;
