@@ -23,5 +23,6 @@ handed_out now word tenant ticket payload =
 -- the entry
 abbrev pub entry_in : Kept → Logged
 entry_in (kept.Whole whole) = arc_value whole
-entry_in (kept.Post post) = posted post.now post.body post.word post.outcome
-entry_in (kept.Job job) = handed_out job.now job.word job.tenant job.ticket job.payload
+entry_in (kept.Post post) = posted post.value.moment post.value.body post.value.word post.value.outcome
+entry_in (kept.Job job) =
+    handed_out job.value.moment job.value.word job.value.tenant job.value.ticket job.value.payload

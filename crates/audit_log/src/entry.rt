@@ -140,7 +140,7 @@ impl PackedPost {
             },
             word: self.word,
         };
-        Arc::new(alloc, Entry { step, outcome })
+        Ok(Arc::new(alloc, Entry { step, outcome })?)
     }
 }
 
@@ -156,7 +156,7 @@ impl PackedJob {
             word: self.word,
         };
         let outcome = Outcome::Job(self.tenant, self.ticket, payload);
-        Arc::new(alloc, Entry { step, outcome })
+        Ok(Arc::new(alloc, Entry { step, outcome })?)
     }
 }
 

@@ -44,7 +44,7 @@ fn entry_of(
         step,
         word: WordSource::Caller,
     };
-    Arc::new(alloc, Entry { step, outcome })
+    Ok(Arc::new(alloc, Entry { step, outcome })?)
 }
 
 /// The outcome of a post that was taken.
