@@ -11,6 +11,8 @@ mod decisions;
 #[cfg(test)]
 mod load;
 #[cfg(test)]
+mod packed;
+#[cfg(test)]
 mod placed;
 #[cfg(test)]
 mod pool;
