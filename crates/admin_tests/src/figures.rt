@@ -1,20 +1,21 @@
 //! Tenants' figures for tests.
 
 use admin_pages::{LastAnswer, TenantFigures, TenantUsage};
-use std::alloc::{AllocError, Global};
+use std::alloc::Global;
+use std::process::Abort;
 
 /// A tenant of 77 spans in places of 2 to 12, beside which 13 and 14 were left out.
 pub const EACH: [u64; 14] = [77, 2, 3, 4, 5, 6, 7, 8, 9, 10, 11, 12, 13, 14];
 
 /// A tenant of this name with these counters that has gone, so that nothing of it is there or waits.
-pub fn tenant(alloc: Global, name: &str, counters: [u64; 14]) -> Result<TenantFigures, AllocError> {
-    Ok(TenantFigures {
-        name: String::from_str(alloc, name)?,
+pub fn tenant(rt: &impl Abort, alloc: Global, name: &str, counters: [u64; 14]) -> TenantFigures {
+    TenantFigures {
+        name: String::from_str(alloc, name).expect(rt, "memory"),
         counters,
         usage: TenantUsage::none(),
         ready: None,
         back_end: None,
-    })
+    }
 }
 
 /// 5 rows of at most 50,000, 4 of them undecided, room for 1,000 spans, and 2 batches in a queue for 3, of 68 bytes in
@@ -31,34 +32,31 @@ pub const HALF_FULL: TenantUsage = TenantUsage {
 };
 
 /// A tenant of this name without spans that is so full.
-pub fn with_usage(
-    alloc: Global,
-    name: &str,
-    usage: TenantUsage,
-) -> Result<TenantFigures, AllocError> {
-    Ok(TenantFigures {
+pub fn with_usage(rt: &impl Abort, alloc: Global, name: &str, usage: TenantUsage) -> TenantFigures {
+    TenantFigures {
         usage,
-        ..tenant(alloc, name, [0; 14])?
-    })
+        ..tenant(rt, alloc, name, [0; 14])
+    }
 }
 
 /// A tenant of this name without spans, whose back end answered this last, at this moment.
 pub fn answered(
+    rt: &impl Abort,
     alloc: Global,
     name: &str,
     status: u16,
     moment: u64,
-) -> Result<TenantFigures, AllocError> {
-    Ok(TenantFigures {
+) -> TenantFigures {
+    TenantFigures {
         back_end: Some(LastAnswer { status, moment }),
-        ..tenant(alloc, name, [0; 14])?
-    })
+        ..tenant(rt, alloc, name, [0; 14])
+    }
 }
 
 /// A tenant of this name without spans, of which something is due at this moment.
-pub fn due(alloc: Global, name: &str, moment: u64) -> Result<TenantFigures, AllocError> {
-    Ok(TenantFigures {
+pub fn due(rt: &impl Abort, alloc: Global, name: &str, moment: u64) -> TenantFigures {
+    TenantFigures {
         ready: Some(moment),
-        ..tenant(alloc, name, [0; 14])?
-    })
+        ..tenant(rt, alloc, name, [0; 14])
+    }
 }

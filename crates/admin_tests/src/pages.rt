@@ -2,19 +2,40 @@
 
 use crate::figures::{EACH, HALF_FULL, answered, due, tenant, with_usage};
 use admin_pages::{
-    MetricKind, TenantUsage, put_gone, put_measure, put_string, put_tenant, put_tenant_metrics,
-    put_tenants,
+    MetricKind, TenantFigures, TenantUsage, put_gone, put_measure, put_string, put_tenant,
+    put_tenant_metrics, put_tenants,
 };
-use std::test::Fail;
+use std::alloc::Global;
+use std::process::Abort;
+
+/// The metrics of tenants.
+fn metrics(rt: &impl Abort, alloc: Global, tenants: &[TenantFigures]) -> Vec<u8> {
+    let mut text = Vec::new(alloc);
+    put_tenant_metrics(alloc, &mut text, tenants).expect(rt, "memory");
+    text
+}
+
+/// A tenant as an object.
+fn object(rt: &impl Abort, alloc: Global, figures: &TenantFigures) -> Vec<u8> {
+    let mut text = Vec::new(alloc);
+    put_tenant(alloc, &mut text, figures).expect(rt, "memory");
+    text
+}
+
+/// One that has gone as an object.
+fn gone(rt: &impl Abort, alloc: Global, figures: &TenantFigures) -> Vec<u8> {
+    let mut text = Vec::new(alloc);
+    put_gone(alloc, &mut text, figures).expect(rt, "memory");
+    text
+}
 
 #[test]
-fn metrics_have_a_sample_for_each_tenant(rt: HostRuntime) -> Result<(), Fail> {
+fn metrics_have_a_sample_for_each_tenant(rt: HostRuntime) {
     let tenants = [
-        tenant(rt.alloc(), "a", EACH)?,
-        tenant(rt.alloc(), "b\\c\"d\ne", [0; 14])?,
+        tenant(&rt, rt.alloc(), "a", EACH),
+        tenant(&rt, rt.alloc(), "b\\c\"d\ne", [0; 14]),
     ];
-    let mut text = Vec::new(rt.alloc());
-    put_tenant_metrics(rt.alloc(), &mut text, &tenants)?;
+    let text = metrics(&rt, rt.alloc(), &tenants);
     let begins = b"# HELP otelcol_receiver_accepted_spans_total Spans that were taken\n\
 # TYPE otelcol_receiver_accepted_spans_total counter\n\
 otelcol_receiver_accepted_spans_total{tenant=\"a\"} 77\n\
@@ -47,7 +68,6 @@ nimchaes_queued_bytes_limit{tenant=\"b\\\\c\\\"d\\ne\"} 0\n\
         text.iter().filter(|byte| **byte == b'\n').count(),
         22 * 4 + 3 * 2
     );
-    Ok(())
 }
 
 /// What stands from the last counter of two tenants on, of whom the first is half full.
@@ -95,45 +115,41 @@ nimchaes_queued_bytes_limit{tenant=\"b\\\"\"} 0\n\
 # TYPE nimchaes_back_end_last_status_uptime_seconds gauge\n";
 
 #[test]
-fn each_tenant_has_each_gauge(rt: HostRuntime) -> Result<(), Fail> {
+fn each_tenant_has_each_gauge(rt: HostRuntime) {
     let alloc = rt.alloc();
     let many = TenantUsage {
         rows: u64::MAX,
         ..TenantUsage::none()
     };
     let tenants = [
-        with_usage(alloc, "a", HALF_FULL)?,
-        with_usage(alloc, "b\"", many)?,
+        with_usage(&rt, alloc, "a", HALF_FULL),
+        with_usage(&rt, alloc, "b\"", many),
     ];
-    let mut text = Vec::new(alloc);
-    put_tenant_metrics(alloc, &mut text, &tenants)?;
+    let text = metrics(&rt, alloc, &tenants);
     assert!(rt; text.ends_with(FULLNESS.as_bytes()));
-    let mut text = Vec::new(alloc);
-    put_tenant(alloc, &mut text, &with_usage(alloc, "a", HALF_FULL)?)?;
+    let text = object(&rt, alloc, &with_usage(&rt, alloc, "a", HALF_FULL));
     let ends =
         b",\"over_budget\":0,\"rows\":5,\"undecided_rows\":4,\"rows_limit\":50000,\"spans_limit\":1000,\
 \"queued_batches\":2,\"queued_batches_limit\":3,\"queued_bytes\":68,\"queued_bytes_limit\":70,\"ready_at_ms\":null,\
 \"back_end_status\":null,\"back_end_status_at_ms\":null}"
             .as_slice();
     assert!(rt; text.ends_with(ends));
-    Ok(())
 }
 
 #[test]
-fn who_waits_has_a_moment_in_seconds(rt: HostRuntime) -> Result<(), Fail> {
+fn who_waits_has_a_moment_in_seconds(rt: HostRuntime) {
     let alloc = rt.alloc();
     let tenants = [
-        due(alloc, "a", 0)?,
-        tenant(alloc, "nothing", EACH)?,
-        due(alloc, "b", 7)?,
-        due(alloc, "c", 10)?,
-        due(alloc, "d", 999)?,
-        due(alloc, "e", 1000)?,
-        due(alloc, "f\"", 3_600_120)?,
-        due(alloc, "g", u64::MAX)?,
+        due(&rt, alloc, "a", 0),
+        tenant(&rt, alloc, "nothing", EACH),
+        due(&rt, alloc, "b", 7),
+        due(&rt, alloc, "c", 10),
+        due(&rt, alloc, "d", 999),
+        due(&rt, alloc, "e", 1000),
+        due(&rt, alloc, "f\"", 3_600_120),
+        due(&rt, alloc, "g", u64::MAX),
     ];
-    let mut text = Vec::new(alloc);
-    put_tenant_metrics(alloc, &mut text, &tenants)?;
+    let text = metrics(&rt, alloc, &tenants);
     let ends = b"# TYPE nimchaes_ready_uptime_seconds gauge\n\
 nimchaes_ready_uptime_seconds{tenant=\"a\"} 0.000\n\
 nimchaes_ready_uptime_seconds{tenant=\"b\"} 0.007\n\
@@ -148,21 +164,19 @@ nimchaes_ready_uptime_seconds{tenant=\"g\"} 18446744073709551.615\n\
 # TYPE nimchaes_back_end_last_status_uptime_seconds gauge\n"
         .as_slice();
     assert!(rt; text.ends_with(ends));
-    Ok(())
 }
 
 #[test]
-fn who_was_answered_has_the_last_status(rt: HostRuntime) -> Result<(), Fail> {
+fn who_was_answered_has_the_last_status(rt: HostRuntime) {
     let alloc = rt.alloc();
     let tenants = [
-        answered(alloc, "a", 200, 0)?,
-        tenant(alloc, "nothing", EACH)?,
-        answered(alloc, "b\"", 503, 61_005)?,
-        answered(alloc, "none", 0, u64::MAX)?,
-        answered(alloc, "any", u16::MAX, 7)?,
+        answered(&rt, alloc, "a", 200, 0),
+        tenant(&rt, alloc, "nothing", EACH),
+        answered(&rt, alloc, "b\"", 503, 61_005),
+        answered(&rt, alloc, "none", 0, u64::MAX),
+        answered(&rt, alloc, "any", u16::MAX, 7),
     ];
-    let mut text = Vec::new(alloc);
-    put_tenant_metrics(alloc, &mut text, &tenants)?;
+    let text = metrics(&rt, alloc, &tenants);
     let ends = b"# TYPE nimchaes_ready_uptime_seconds gauge\n\
 # HELP nimchaes_back_end_last_status Status that the back end answered last or 0 if no whole answer came\n\
 # TYPE nimchaes_back_end_last_status gauge\n\
@@ -178,11 +192,10 @@ nimchaes_back_end_last_status_uptime_seconds{tenant=\"none\"} 18446744073709551.
 nimchaes_back_end_last_status_uptime_seconds{tenant=\"any\"} 0.007\n"
         .as_slice();
     assert!(rt; text.ends_with(ends));
-    Ok(())
 }
 
 #[test]
-fn a_measure_is_a_family_of_one_sample(rt: HostRuntime) -> Result<(), Fail> {
+fn a_measure_is_a_family_of_one_sample(rt: HostRuntime) {
     let mut text = Vec::new(rt.alloc());
     let name = "nimchaes_lane_jobs";
     put_measure(
@@ -192,13 +205,13 @@ fn a_measure_is_a_family_of_one_sample(rt: HostRuntime) -> Result<(), Fail> {
         "Jobs in the lane",
         MetricKind::Gauge,
         3,
-    )?;
+    )
+    .expect(&rt, "memory");
     let wanted = b"# HELP nimchaes_lane_jobs Jobs in the lane\n\
 # TYPE nimchaes_lane_jobs gauge\n\
 nimchaes_lane_jobs 3\n"
         .as_slice();
     assert!(rt; text.as_slice() == wanted);
-    Ok(())
 }
 
 /// The counters of EACH.
@@ -214,105 +227,93 @@ const EMPTY_MEMBERS: &str =
 \"back_end_status_at_ms\":null}";
 
 #[test]
-fn a_tenant_is_an_object(rt: HostRuntime) -> Result<(), Fail> {
+fn a_tenant_is_an_object(rt: HostRuntime) {
     let alloc = rt.alloc();
-    let mut text = Vec::new(alloc);
-    put_tenant(alloc, &mut text, &tenant(alloc, "shop", EACH)?)?;
-    let wanted = format!(in alloc; "{{\"tenant\":\"shop\"{EACH_COUNTERS}{EMPTY_MEMBERS}")?;
+    let text = object(&rt, alloc, &tenant(&rt, alloc, "shop", EACH));
+    let wanted = format!(in alloc; "{{\"tenant\":\"shop\"{EACH_COUNTERS}{EMPTY_MEMBERS}").expect(
+        &rt, "memory",
+    );
     assert!(rt; text.as_slice() == wanted.as_bytes());
-    Ok(())
 }
 
 #[test]
-fn one_that_has_gone_has_its_counters_alone(rt: HostRuntime) -> Result<(), Fail> {
+fn one_that_has_gone_has_its_counters_alone(rt: HostRuntime) {
     let alloc = rt.alloc();
-    let mut text = Vec::new(alloc);
-    put_gone(alloc, &mut text, &tenant(alloc, "shop", EACH)?)?;
-    let wanted = format!(in alloc; "{{\"tenant\":\"shop\"{EACH_COUNTERS}}}")?;
+    let text = gone(&rt, alloc, &tenant(&rt, alloc, "shop", EACH));
+    let wanted = format!(in alloc; "{{\"tenant\":\"shop\"{EACH_COUNTERS}}}").expect(&rt, "memory");
     assert!(rt; text.as_slice() == wanted.as_bytes());
-    Ok(())
+}
+
+/// Who waits until this moment has it so in milliseconds.
+fn is_due(rt: &impl Abort, alloc: Global, moment: u64, told: &str) {
+    let text = object(rt, alloc, &due(rt, alloc, "a", moment));
+    let ends = format!(in alloc;
+        ",\"queued_bytes_limit\":0,\"ready_at_ms\":{told},\"back_end_status\":null,\"back_end_status_at_ms\":null}}"
+    ).expect(rt, "memory");
+    assert!(rt; text.ends_with(ends.as_bytes()));
 }
 
 #[test]
-fn who_waits_has_a_moment_in_milliseconds(rt: HostRuntime) -> Result<(), Fail> {
-    for (moment, told) in [
-        (0, "0"),
-        (61_005, "61005"),
-        (u64::MAX, "18446744073709551615"),
-    ] {
-        let mut text = Vec::new(rt.alloc());
-        put_tenant(rt.alloc(), &mut text, &due(rt.alloc(), "a", moment)?)?;
-        let ends = format!(in rt.alloc();
-            ",\"queued_bytes_limit\":0,\"ready_at_ms\":{told},\"back_end_status\":null,\"back_end_status_at_ms\":null}}"
-        )?;
-        assert!(rt; text.ends_with(ends.as_bytes()));
-    }
-    Ok(())
+fn who_waits_has_a_moment_in_milliseconds(rt: HostRuntime) {
+    is_due(&rt, rt.alloc(), 0, "0");
+    is_due(&rt, rt.alloc(), 61_005, "61005");
+    is_due(&rt, rt.alloc(), u64::MAX, "18446744073709551615");
+}
+
+/// Who was answered this at this moment is told so, and nothing of it once it has gone.
+fn is_answered(rt: &impl Abort, alloc: Global, status: u16, moment: u64, ends: &str) {
+    let figures = answered(rt, alloc, "a", status, moment);
+    let text = object(rt, alloc, &figures);
+    assert!(rt; text.ends_with(ends.as_bytes()));
+    let text = gone(rt, alloc, &figures);
+    assert!(rt; text.ends_with(b",\"over_budget\":0}"));
 }
 
 #[test]
-fn who_was_answered_has_status_and_moment(rt: HostRuntime) -> Result<(), Fail> {
-    for (status, moment, ends) in [
-        (
-            200,
-            0,
-            ",\"back_end_status\":200,\"back_end_status_at_ms\":0}",
-        ),
-        (
-            503,
-            12_345,
-            ",\"back_end_status\":503,\"back_end_status_at_ms\":12345}",
-        ),
-        (
-            0,
-            u64::MAX,
-            ",\"back_end_status\":0,\"back_end_status_at_ms\":18446744073709551615}",
-        ),
-    ] {
-        let alloc = rt.alloc();
-        let figures = answered(alloc, "a", status, moment)?;
-        let mut text = Vec::new(alloc);
-        put_tenant(alloc, &mut text, &figures)?;
-        let wanted = format!(in alloc; ",\"ready_at_ms\":null{ends}")?;
-        assert!(rt; text.ends_with(wanted.as_bytes()));
-        let mut text = Vec::new(alloc);
-        put_gone(alloc, &mut text, &figures)?;
-        assert!(rt; text.ends_with(b",\"over_budget\":0}"));
-    }
-    Ok(())
+fn who_was_answered_has_status_and_moment(rt: HostRuntime) {
+    let good = ",\"ready_at_ms\":null,\"back_end_status\":200,\"back_end_status_at_ms\":0}";
+    is_answered(&rt, rt.alloc(), 200, 0, good);
+    let busy = ",\"ready_at_ms\":null,\"back_end_status\":503,\"back_end_status_at_ms\":12345}";
+    is_answered(&rt, rt.alloc(), 503, 12_345, busy);
+    let none =
+        ",\"ready_at_ms\":null,\"back_end_status\":0,\"back_end_status_at_ms\":18446744073709551615}";
+    is_answered(&rt, rt.alloc(), 0, u64::MAX, none);
+}
+
+/// Tenants stand in an array so.
+fn stand_so(rt: &impl Abort, alloc: Global, tenants: &[TenantFigures], wanted: &str) {
+    let mut text = Vec::new(alloc);
+    put_tenants(alloc, &mut text, tenants).expect(rt, "memory");
+    assert!(rt; text.as_slice() == wanted.as_bytes());
 }
 
 #[test]
-fn tenants_stand_in_an_array(rt: HostRuntime) -> Result<(), Fail> {
+fn tenants_stand_in_an_array(rt: HostRuntime) {
     let alloc = rt.alloc();
-    let mut text = Vec::new(alloc);
-    put_tenants(alloc, &mut text, &[])?;
-    assert!(rt; text.as_slice() == b"{\"tenants\":[]}".as_slice());
-    let mut text = Vec::new(alloc);
-    let tenants = [tenant(alloc, "a", EACH)?, tenant(alloc, "b", EACH)?];
-    put_tenants(alloc, &mut text, &tenants)?;
-    let members = format!(in alloc; "{EACH_COUNTERS}{EMPTY_MEMBERS}")?;
+    stand_so(&rt, alloc, &[], "{\"tenants\":[]}");
+    let tenants = [tenant(&rt, alloc, "a", EACH), tenant(&rt, alloc, "b", EACH)];
+    let members = format!(in alloc; "{EACH_COUNTERS}{EMPTY_MEMBERS}").expect(&rt, "memory");
     let members = members.as_str();
     let wanted = format!(in alloc;
         "{{\"tenants\":[{{\"tenant\":\"a\"{members},{{\"tenant\":\"b\"{members}]}}"
-    )?;
+    ).expect(&rt, "memory");
+    stand_so(&rt, alloc, &tenants, wanted.as_str());
+}
+
+/// A string is written so.
+fn is_written(rt: &impl Abort, alloc: Global, given: &str, wanted: &str) {
+    let mut text = Vec::new(alloc);
+    put_string(&mut text, given).expect(rt, "memory");
     assert!(rt; text.as_slice() == wanted.as_bytes());
-    Ok(())
 }
 
 /// Quotes, backslashes, control characters, and characters of one to four bytes (RFC 8259, section 7).
 #[test]
-fn strings_are_escaped(rt: HostRuntime) -> Result<(), Fail> {
-    for (given, wanted) in [
-        ("", "\"\""),
-        ("a\"b\\c", "\"a\\\"b\\\\c\""),
-        ("\u{0}\u{1f}\u{7f}", "\"\\u0000\\u001f\u{7f}\""),
-        ("\n\t\r", "\"\\u000a\\u0009\\u000d\""),
-        ("é€😀/", "\"é€😀/\""),
-    ] {
-        let mut text = Vec::new(rt.alloc());
-        put_string(&mut text, given)?;
-        assert!(rt; text.as_slice() == wanted.as_bytes());
-    }
-    Ok(())
+fn strings_are_escaped(rt: HostRuntime) {
+    let alloc = rt.alloc();
+    is_written(&rt, alloc, "", "\"\"");
+    is_written(&rt, alloc, "a\"b\\c", "\"a\\\"b\\\\c\"");
+    is_written(&rt, alloc, "\u{0}\u{1f}\u{7f}", "\"\\u0000\\u001f\u{7f}\"");
+    is_written(&rt, alloc, "\n\t\r", "\"\\u000a\\u0009\\u000d\"");
+    is_written(&rt, alloc, "é€😀/", "\"é€😀/\"");
 }

@@ -3,22 +3,23 @@
 use crate::figures::EACH;
 use admin_pages::read_report;
 use drop_ledger::Ledger;
-use std::test::Fail;
 
 #[test]
-fn a_report_is_read_back(rt: HostRuntime) -> Result<(), Fail> {
-    let text = Ledger::of(EACH).report_text(rt.alloc())?;
+fn a_report_is_read_back(rt: HostRuntime) {
+    let text = Ledger::of(EACH)
+        .report_text(rt.alloc())
+        .expect(&rt, "memory");
     assert!(rt; read_report(text.as_bytes()) == Some(EACH));
-    Ok(())
 }
 
 #[test]
-fn the_largest_counter_is_read_back(rt: HostRuntime) -> Result<(), Fail> {
+fn the_largest_counter_is_read_back(rt: HostRuntime) {
     let most = 1 << 62;
     let counters = [most, 0, 0, 0, 0, most, 0, 0, 0, 0, 0, 0, 0, 0];
-    let text = Ledger::of(counters).report_text(rt.alloc())?;
+    let text = Ledger::of(counters)
+        .report_text(rt.alloc())
+        .expect(&rt, "memory");
     assert!(rt; read_report(text.as_bytes()) == Some(counters));
-    Ok(())
 }
 
 /// Lines that no report has, one a line: with a leading zero, a sign, another order, a counter too few, a word more, a

@@ -3,7 +3,8 @@
 use admin_pages::{
     STATUS_COUNTS, ServiceCounts, ServiceFigures, StatusCounts, put_service, status_place,
 };
-use std::test::Fail;
+use std::alloc::Global;
+use std::process::Abort;
 
 /// So many of each class, from this number on.
 fn counts(first: u64) -> StatusCounts {
@@ -84,60 +85,75 @@ nimchaes_back_end_answers_total{class=\"5xx\"} 42
 nimchaes_back_end_answers_total{class=\"other\"} 43
 ";
 
-#[test]
-fn each_figure_is_a_sample(rt: HostRuntime) -> Result<(), Fail> {
-    let mut text = Vec::new(rt.alloc());
-    put_service(rt.alloc(), &mut text, &figures(Some(u64::MAX), REQUESTS))?;
-    let mut samples = Vec::new(rt.alloc());
-    for line in text.as_slice().split_inclusive(|byte| *byte == b'\n') {
+/// What is told of these figures.
+fn told(rt: &impl Abort, alloc: Global, figures: &ServiceFigures) -> Vec<u8> {
+    let mut text = Vec::new(alloc);
+    put_service(alloc, &mut text, figures).expect(rt, "memory");
+    text
+}
+
+/// The lines of a text that aren't comments.
+fn samples_of(rt: &impl Abort, alloc: Global, text: &[u8]) -> Vec<u8> {
+    let mut samples = Vec::new(alloc);
+    for line in text.split_inclusive(|byte| *byte == b'\n') {
         if !line.starts_with(b"#") {
-            samples.extend_from_slice(line)?;
+            samples.extend_from_slice(line).expect(rt, "memory");
         }
     }
+    samples
+}
+
+#[test]
+fn each_figure_is_a_sample(rt: HostRuntime) {
+    let text = told(&rt, rt.alloc(), &figures(Some(u64::MAX), REQUESTS));
+    let samples = samples_of(&rt, rt.alloc(), text.as_slice());
     assert!(rt; samples.as_slice() == SAMPLES.as_bytes());
-    Ok(())
+}
+
+/// Requests with this status are counted in the sample that has this label.
+fn is_counted(rt: &impl Abort, alloc: Global, status: u16, label: &str) {
+    let mut requests = [0; STATUS_COUNTS];
+    requests[status_place(status)] = 7;
+    let text = told(rt, alloc, &figures(None, requests));
+    let mut sample = Vec::from_slice(alloc, b"\nnimchaes_requests_total{code=\"").expect(
+        rt, "memory",
+    );
+    sample
+        .extend_from_slice(label.as_bytes())
+        .expect(rt, "memory");
+    sample.extend_from_slice(b"\"} 7\n").expect(rt, "memory");
+    let length = sample.len();
+    assert!(rt;
+        text.as_slice()
+            .windows(length)
+            .any(|part| part == sample.as_slice()),
+        "{status}"
+    );
 }
 
 #[test]
-fn each_status_is_counted_under_its_label(rt: HostRuntime) -> Result<(), Fail> {
-    for (status, label) in [
-        (200, "200"),
-        (400, "400"),
-        (403, "403"),
-        (404, "404"),
-        (405, "405"),
-        (413, "413"),
-        (415, "415"),
-        (429, "429"),
-        (431, "431"),
-        (503, "503"),
-        (0, "other"),
-        (201, "other"),
-        (401, "other"),
-        (500, "other"),
-        (u16::MAX, "other"),
-    ] {
-        let mut requests = [0; STATUS_COUNTS];
-        requests[status_place(status)] = 7;
-        let mut text = Vec::new(rt.alloc());
-        put_service(rt.alloc(), &mut text, &figures(None, requests))?;
-        let mut sample = Vec::from_slice(rt.alloc(), b"\nnimchaes_requests_total{code=\"")?;
-        sample.extend_from_slice(label.as_bytes())?;
-        sample.extend_from_slice(b"\"} 7\n")?;
-        let length = sample.len();
-        assert!(rt;
-            text.as_slice()
-                .windows(length)
-                .any(|part| part == sample.as_slice())
-        );
-    }
-    Ok(())
+fn each_status_is_counted_under_its_label(rt: HostRuntime) {
+    let alloc = rt.alloc();
+    is_counted(&rt, alloc, 200, "200");
+    is_counted(&rt, alloc, 400, "400");
+    is_counted(&rt, alloc, 403, "403");
+    is_counted(&rt, alloc, 404, "404");
+    is_counted(&rt, alloc, 405, "405");
+    is_counted(&rt, alloc, 413, "413");
+    is_counted(&rt, alloc, 415, "415");
+    is_counted(&rt, alloc, 429, "429");
+    is_counted(&rt, alloc, 431, "431");
+    is_counted(&rt, alloc, 503, "503");
+    is_counted(&rt, alloc, 0, "other");
+    is_counted(&rt, alloc, 201, "other");
+    is_counted(&rt, alloc, 401, "other");
+    is_counted(&rt, alloc, 500, "other");
+    is_counted(&rt, alloc, u16::MAX, "other");
 }
 
 #[test]
-fn memory_may_be_unknown(rt: HostRuntime) -> Result<(), Fail> {
-    let mut text = Vec::new(rt.alloc());
-    put_service(rt.alloc(), &mut text, &figures(None, REQUESTS))?;
+fn memory_may_be_unknown(rt: HostRuntime) {
+    let text = told(&rt, rt.alloc(), &figures(None, REQUESTS));
     let begins = b"# HELP nimchaes_build_info The version that runs\n\
 # TYPE nimchaes_build_info gauge\n\
 nimchaes_build_info{version=\"1.2.3\"} 1\n\
@@ -156,5 +172,4 @@ nimchaes_receivers 13\n"
         .windows(after.len())
         .position(|part| part == after);
     assert!(rt; at.is_some());
-    Ok(())
 }

@@ -3,7 +3,7 @@
 use crate::figures::tenant;
 use admin_pages::put_settled_tenant;
 use std::alloc::Global;
-use std::test::Fail;
+use std::process::Abort;
 use tail_settings::load;
 
 /// What a tenant without spans is, up to its settings.
@@ -15,21 +15,18 @@ const BEFORE: &str =
 \"ready_at_ms\":null,\"back_end_status\":null,\"back_end_status_at_ms\":null,\"settings\":";
 
 /// What is shown of the only tenant of a document, behind its counters.
-fn shown(alloc: Global, document: &str) -> Result<Vec<u8>, Fail> {
-    let Ok(settings) = load(alloc, document) else {
-        return Err(Fail::new("no settings"));
-    };
-    let Some(section) = settings.section(0) else {
-        return Err(Fail::new("no tenant"));
-    };
+fn shown(rt: &impl Abort, alloc: Global, document: &str) -> Vec<u8> {
+    let settings = load(alloc, document).expect(rt, "good settings");
+    let section = settings.section(0).expect(rt, "a tenant");
+    let figures = tenant(rt, alloc, "a", [0; 14]);
     let mut text = Vec::new(alloc);
-    put_settled_tenant(alloc, &mut text, &tenant(alloc, "a", [0; 14])?, section)?;
-    Ok(text)
+    put_settled_tenant(alloc, &mut text, &figures, section).expect(rt, "memory");
+    text
 }
 
 /// Nothing is left to a default: the values are those of docs/SETTINGS.md.
 #[test]
-fn defaults_are_shown(rt: HostRuntime) -> Result<(), Fail> {
+fn defaults_are_shown(rt: HostRuntime) {
     let document =
         "[[tenant]]\nname = 'a'\n[[tenant.tail_sampling.policy]]\ntype = 'always_sample'\n";
     let wanted = format!(in rt.alloc();
@@ -41,9 +38,10 @@ fn defaults_are_shown(rt: HostRuntime) -> Result<(), Fail> {
 \"sending_queue\":{{\"queue_size\":1000,\"num_consumers\":10}},\
 \"retry_on_failure\":{{\"initial_interval_ms\":5000,\"max_interval_ms\":30000,\"max_elapsed_time_ms\":300000,\
 \"multiplier\":1500,\"randomization_factor\":500}}}}}}"
-    )?;
-    assert!(rt; shown(rt.alloc(), document)?.as_slice() == wanted.as_bytes());
-    Ok(())
+    )
+    .expect(&rt, "memory");
+    let shown = shown(&rt, rt.alloc(), document);
+    assert!(rt; shown.as_slice() == wanted.as_bytes());
 }
 
 /// A tenant that sets each key, and has each kind of policy.
@@ -91,7 +89,7 @@ randomization_factor = 18
 "#;
 
 #[test]
-fn each_key_is_shown(rt: HostRuntime) -> Result<(), Fail> {
+fn each_key_is_shown(rt: HostRuntime) {
     let wanted = format!(in rt.alloc();
         "{BEFORE}{{\"endpoint\":\"traces.\\\"x\\\":1\",\"max_spans\":1,\"seed\":2,\
 \"tail_sampling\":{{\"decision_wait_ms\":3,\"num_traces\":4,\
@@ -107,7 +105,8 @@ fn each_key_is_shown(rt: HostRuntime) -> Result<(), Fail> {
 \"sending_queue\":{{\"queue_size\":12,\"num_consumers\":13}},\
 \"retry_on_failure\":{{\"initial_interval_ms\":14,\"max_interval_ms\":15,\"max_elapsed_time_ms\":16,\
 \"multiplier\":1017,\"randomization_factor\":18}}}}}}"
-    )?;
-    assert!(rt; shown(rt.alloc(), EACH_KEY)?.as_slice() == wanted.as_bytes());
-    Ok(())
+    )
+    .expect(&rt, "memory");
+    let shown = shown(&rt, rt.alloc(), EACH_KEY);
+    assert!(rt; shown.as_slice() == wanted.as_bytes());
 }

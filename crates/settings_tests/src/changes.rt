@@ -1,7 +1,7 @@
 //! Tenants that come to settings in force, and tenants that leave them.
 
 use std::alloc::{AllocError, Global};
-use std::test::Fail;
+use std::process::Abort;
 use tail_settings::{Document, MOST_QUEUE_BYTES, Section, Settings, SettingsFault, load};
 
 const A_AND_B: &str =
@@ -140,60 +140,57 @@ fn are_b_and_c(settings: &Settings) -> bool {
 }
 
 #[test]
-fn a_number_stays_with_its_tenant(rt: HostRuntime) -> Result<(), Fail> {
-    let mut settings = load(rt.alloc(), A_AND_B)?;
-    assert_eq!(rt;
-        first_wrong(rt.alloc(), &mut settings, Way::ByText, STORY)?,
-        ""
-    );
+fn a_number_stays_with_its_tenant(rt: HostRuntime) {
+    let mut settings = load(rt.alloc(), A_AND_B).expect(&rt, "good settings");
+    let wrong = first_wrong(rt.alloc(), &mut settings, Way::ByText, STORY).expect(&rt, "memory");
+    assert_eq!(rt; wrong, "");
     assert!(rt; are_b_and_c(&settings));
-    Ok(())
 }
 
 #[test]
-fn a_document_is_admitted_as_its_text_is(rt: HostRuntime) -> Result<(), Fail> {
-    let mut settings = load(rt.alloc(), A_AND_B)?;
-    assert_eq!(rt;
-        first_wrong(rt.alloc(), &mut settings, Way::ByDocument, STORY)?,
-        ""
+fn a_document_is_admitted_as_its_text_is(rt: HostRuntime) {
+    let mut settings = load(rt.alloc(), A_AND_B).expect(&rt, "good settings");
+    let wrong = first_wrong(rt.alloc(), &mut settings, Way::ByDocument, STORY).expect(
+        &rt, "memory",
     );
+    assert_eq!(rt; wrong, "");
     assert!(rt; are_b_and_c(&settings));
-    Ok(())
 }
 
 /// The settings of `a` and `b` with the tenants of two documents, one behind the other.
-fn with_both(
-    alloc: Global,
-    first: &Document,
-    second: &Document,
-) -> Result<Settings, SettingsFault> {
-    let mut settings = load(alloc, A_AND_B)?;
-    settings.admit_document(alloc, first)?;
-    settings.admit_document(alloc, second)?;
-    Ok(settings)
+fn with_both(rt: &impl Abort, alloc: Global, first: &Document, second: &Document) -> Settings {
+    let mut settings = load(alloc, A_AND_B).expect(rt, "good settings");
+    settings
+        .admit_document(alloc, first)
+        .expect(rt, "the first comes");
+    settings
+        .admit_document(alloc, second)
+        .expect(rt, "the second comes");
+    settings
+}
+
+/// The numbers of the tenants `c` and `d`.
+fn numbers(settings: &Settings) -> (Option<u32>, Option<u32>) {
+    (settings.number("c"), settings.number("d"))
+}
+
+/// Who is there isn't admitted again.
+fn assert_c_is_there(rt: &impl Abort, alloc: Global, settings: &mut Settings, c: &Document) {
+    let again = settings.admit_document(alloc, c);
+    let told = told_of_admission(alloc, again).expect(rt, "memory");
+    assert_eq!(rt; told.as_str(), "settings fault 14 c");
+    assert_eq!(rt; settings.tenants_len(), 4);
 }
 
 #[test]
-fn documents_are_admitted_in_any_order(rt: HostRuntime) -> Result<(), Fail> {
-    let c = Document::parse(rt.alloc(), C)?;
-    let d = Document::parse(rt.alloc(), D)?;
-    let settings = with_both(rt.alloc(), &c, &d)?;
-    assert_eq!(rt;
-        (settings.number("c"), settings.number("d")),
-        (Some(2), Some(3))
-    );
-    let mut settings = with_both(rt.alloc(), &d, &c)?;
-    assert_eq!(rt;
-        (settings.number("c"), settings.number("d")),
-        (Some(3), Some(2))
-    );
-    let again = settings.admit_document(rt.alloc(), &c);
-    assert_eq!(rt;
-        told_of_admission(rt.alloc(), again)?.as_str(),
-        "settings fault 14 c"
-    );
-    assert_eq!(rt; settings.tenants_len(), 4);
-    Ok(())
+fn documents_are_admitted_in_any_order(rt: HostRuntime) {
+    let c = Document::parse(rt.alloc(), C).expect(&rt, "a document");
+    let d = Document::parse(rt.alloc(), D).expect(&rt, "a document");
+    let settings = with_both(&rt, rt.alloc(), &c, &d);
+    assert!(rt; numbers(&settings) == (Some(2), Some(3)));
+    let mut settings = with_both(&rt, rt.alloc(), &d, &c);
+    assert!(rt; numbers(&settings) == (Some(3), Some(2)));
+    assert_c_is_there(&rt, rt.alloc(), &mut settings, &c);
 }
 
 fn tenant_text(alloc: Global, number: u32) -> Result<String, AllocError> {
@@ -214,14 +211,11 @@ fn tenants_text(alloc: Global, count: u32) -> Result<String, AllocError> {
 }
 
 #[test]
-fn at_most_a_thousand_are_present(rt: HostRuntime) -> Result<(), Fail> {
-    let text = tenants_text(rt.alloc(), 1000)?;
-    let mut settings = load(rt.alloc(), text.as_str())?;
-    assert_eq!(rt;
-        first_wrong(rt.alloc(), &mut settings, Way::ByText, A_THOUSAND)?,
-        ""
-    );
-    Ok(())
+fn at_most_a_thousand_are_present(rt: HostRuntime) {
+    let text = tenants_text(rt.alloc(), 1000).expect(&rt, "memory");
+    let mut settings = load(rt.alloc(), text.as_str()).expect(&rt, "good settings");
+    let wrong = first_wrong(rt.alloc(), &mut settings, Way::ByText, A_THOUSAND);
+    assert_eq!(rt; wrong.expect(&rt, "memory"), "");
 }
 
 /// What is told of a tenant with so many policies, in a document whose `global` is no table.
@@ -239,17 +233,12 @@ fn told_of_policies(
 }
 
 #[test]
-fn a_tenant_that_comes_has_at_most_64_policies(rt: HostRuntime) -> Result<(), Fail> {
-    let mut settings = load(rt.alloc(), A_AND_B)?;
-    assert_eq!(rt;
-        told_of_policies(rt.alloc(), &mut settings, 65)?.as_str(),
-        "settings fault 15"
-    );
-    assert_eq!(rt;
-        told_of_policies(rt.alloc(), &mut settings, 64)?.as_str(),
-        "2"
-    );
-    Ok(())
+fn a_tenant_that_comes_has_at_most_64_policies(rt: HostRuntime) {
+    let mut settings = load(rt.alloc(), A_AND_B).expect(&rt, "good settings");
+    let told = told_of_policies(rt.alloc(), &mut settings, 65).expect(&rt, "memory");
+    assert_eq!(rt; told.as_str(), "settings fault 15");
+    let told = told_of_policies(rt.alloc(), &mut settings, 64).expect(&rt, "memory");
+    assert_eq!(rt; told.as_str(), "2");
 }
 
 /// How many bytes the tenant with this number may have in batches that wait, none where there is no such tenant.
@@ -259,18 +248,17 @@ fn queue_bytes(settings: &Settings, number: u32) -> Option<u64> {
 }
 
 #[test]
-fn queues_are_bounded(rt: HostRuntime) -> Result<(), Fail> {
-    let mut settings = load(rt.alloc(), A_AND_B)?;
-    assert_eq!(rt; queue_bytes(&settings, 1), Some(MOST_QUEUE_BYTES));
+fn queues_are_bounded(rt: HostRuntime) {
+    let mut settings = load(rt.alloc(), A_AND_B).expect(&rt, "good settings");
+    assert!(rt; queue_bytes(&settings, 1) == Some(MOST_QUEUE_BYTES));
     settings.bound_queues(1000);
-    assert_eq!(rt; settings.admit(rt.alloc(), C)?, 2);
+    assert!(rt; settings.admit(rt.alloc(), C).expect(&rt, "c comes") == 2);
     for number in 0..3 {
-        assert_eq!(rt; queue_bytes(&settings, number), Some(1000));
+        assert!(rt; queue_bytes(&settings, number) == Some(1000));
     }
-    assert_eq!(rt; settings.number("b"), Some(1));
+    assert!(rt; settings.number("b") == Some(1));
     settings.bound_queues(u64::MAX);
-    assert_eq!(rt; queue_bytes(&settings, 2), Some(MOST_QUEUE_BYTES));
-    Ok(())
+    assert!(rt; queue_bytes(&settings, 2) == Some(MOST_QUEUE_BYTES));
 }
 
 fn is_copied(alloc: Global, section: &Section) -> Result<bool, AllocError> {
@@ -281,9 +269,8 @@ fn is_copied(alloc: Global, section: &Section) -> Result<bool, AllocError> {
 }
 
 #[test]
-fn a_section_is_copied(rt: HostRuntime) -> Result<(), Fail> {
-    let settings = load(rt.alloc(), A_AND_B)?;
-    let section = settings.section(1).ok_or("no section")?;
-    assert!(rt; is_copied(rt.alloc(), section)?);
-    Ok(())
+fn a_section_is_copied(rt: HostRuntime) {
+    let settings = load(rt.alloc(), A_AND_B).expect(&rt, "good settings");
+    let section = settings.section(1).expect(&rt, "a section");
+    assert!(rt; is_copied(rt.alloc(), section).expect(&rt, "memory"));
 }

@@ -1,7 +1,6 @@
 //! Documents that load, and what they are read to.
 
 use std::alloc::{AllocError, Global};
-use std::test::Fail;
 use tail_settings::{PolicySpec, Section, Settings, SettingsFault, load, same_policies};
 
 /// The text of `examples/everything.toml`.
@@ -105,11 +104,10 @@ fn printed(alloc: Global, settings: &Settings, number: u32) -> Result<String, Al
 }
 
 #[test]
-fn every_key_is_read(rt: HostRuntime) -> Result<(), Fail> {
-    let settings = load(rt.alloc(), EVERYTHING)?;
-    let told = printed(rt.alloc(), &settings, 0)?;
+fn every_key_is_read(rt: HostRuntime) {
+    let settings = load(rt.alloc(), EVERYTHING).expect(&rt, "good settings");
+    let told = printed(rt.alloc(), &settings, 0).expect(&rt, "memory");
     assert_eq!(rt; told.as_str(), ALL_POLICIES);
-    Ok(())
 }
 
 const TWO_TENANTS: &str = "tenant = [
@@ -146,18 +144,17 @@ fn are_told_apart(
 }
 
 #[test]
-fn tenants_by_name_and_number(rt: HostRuntime) -> Result<(), Fail> {
-    let settings = load(rt.alloc(), TWO_TENANTS)?;
+fn tenants_by_name_and_number(rt: HostRuntime) {
+    let settings = load(rt.alloc(), TWO_TENANTS).expect(&rt, "good settings");
     assert!(rt; are_a_and_b(&settings));
     let first = policies_of(settings.section(0));
-    assert!(rt; are_told_apart(rt.alloc(), first, policies_of(settings.section(1)))?);
-    Ok(())
+    let second = policies_of(settings.section(1));
+    assert!(rt; are_told_apart(rt.alloc(), first, second).expect(&rt, "memory"));
 }
 
 #[test]
-fn numbers_of_faults_and_refused_memory(rt: HostRuntime) -> Result<(), Fail> {
+fn numbers_of_faults_and_refused_memory(rt: HostRuntime) {
     assert!(rt; SettingsFault::WrongKind("name").number() == Some(12));
-    let text = format!(in rt.alloc(); "{}", SettingsFault::OutOfMemory)?;
+    let text = format!(in rt.alloc(); "{}", SettingsFault::OutOfMemory).expect(&rt, "memory");
     assert_eq!(rt; text.as_str(), "out of memory");
-    Ok(())
 }

@@ -2,7 +2,6 @@
 
 use settings_check::{address_fault, check, settings_text};
 use std::alloc::{AllocError, Global};
-use std::test::Fail;
 use tail_settings::load;
 
 /// The smallest document but for a key that no setting has.
@@ -112,28 +111,29 @@ warning: tenant c: the numeric_attribute policy of the key b\\xc3\\xbccher has a
 ";
 
 #[test]
-fn what_is_doubtful_is_told_beside_a_good_document(rt: HostRuntime) -> Result<(), Fail> {
-    let report = check(rt.alloc(), DOUBTFUL.as_bytes())?;
+fn what_is_doubtful_is_told_beside_a_good_document(rt: HostRuntime) {
+    let report = check(rt.alloc(), DOUBTFUL.as_bytes()).expect(&rt, "memory");
     assert!(rt; report.is_good);
     assert_eq!(rt; report.doubts.as_str(), DOUBTS);
-    Ok(())
 }
 
 #[test]
-fn a_good_document_is_told_with_all_settings_in_force(rt: HostRuntime) -> Result<(), Fail> {
-    let report = check(rt.alloc(), MISSPELT.as_bytes())?;
+fn a_good_document_is_told_with_all_settings_in_force(rt: HostRuntime) {
+    let report = check(rt.alloc(), MISSPELT.as_bytes()).expect(&rt, "memory");
     assert!(rt; report.is_good);
-    let told = report.text.as_str();
-    assert_eq!(rt; told.strip_prefix(BEFORE), Some(IN_FORCE), "{told}");
-    Ok(())
+    let in_force = report
+        .text
+        .as_str()
+        .strip_prefix(BEFORE)
+        .expect(&rt, "what is doubtful");
+    assert_eq!(rt; in_force, IN_FORCE);
 }
 
 #[test]
-fn settings_are_written_as_a_document(rt: HostRuntime) -> Result<(), Fail> {
-    let settings = load(rt.alloc(), MISSPELT)?;
-    let text = settings_text(rt.alloc(), &settings)?;
+fn settings_are_written_as_a_document(rt: HostRuntime) {
+    let settings = load(rt.alloc(), MISSPELT).expect(&rt, "good settings");
+    let text = settings_text(rt.alloc(), &settings).expect(&rt, "memory");
     assert_eq!(rt; text.as_str(), IN_FORCE);
-    Ok(())
 }
 
 /// Documents, each with what is told of it: faults in one of several policies and in a part of one, and too many spans.
@@ -202,21 +202,20 @@ fn first_wrong(alloc: Global, cases: &'static str) -> Result<&'static str, Alloc
 }
 
 #[test]
-fn a_fault_is_told_with_the_policy_that_it_is_in(rt: HostRuntime) -> Result<(), Fail> {
-    assert_eq!(rt; first_wrong(rt.alloc(), FAULTY)?, "");
-    Ok(())
+fn a_fault_is_told_with_the_policy_that_it_is_in(rt: HostRuntime) {
+    let wrong = first_wrong(rt.alloc(), FAULTY).expect(&rt, "memory");
+    assert_eq!(rt; wrong, "");
 }
 
 #[test]
-fn what_an_address_lacks_is_told(rt: HostRuntime) -> Result<(), Fail> {
-    assert_eq!(rt; address_fault(b"127.0.0.1:4318"), None);
-    assert_eq!(rt;
-        address_fault(b"http://127.0.0.1:4318"),
-        Some("has a scheme, where a host, a colon and a port are wanted")
+fn what_an_address_lacks_is_told(rt: HostRuntime) {
+    assert!(rt; address_fault(b"127.0.0.1:4318").is_none());
+    assert!(rt;
+        address_fault(b"http://127.0.0.1:4318")
+            == Some("has a scheme, where a host, a colon and a port are wanted")
     );
-    assert_eq!(rt;
-        address_fault(b"127.0.0.1:4318/v1/traces"),
-        Some("doesn't end with a colon and a port from 0 to 65535")
+    assert!(rt;
+        address_fault(b"127.0.0.1:4318/v1/traces")
+            == Some("doesn't end with a colon and a port from 0 to 65535")
     );
-    Ok(())
 }
