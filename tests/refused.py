@@ -4,10 +4,10 @@
     (cd crates/store_tests && rt test)        # proves and builds out/store_tests_tests
     tests/refused.py store_tests [TEST]       # all its tests, or those whose name has this in it
 
-A run may pass, or end with an error that says that memory was refused. Anything else is listed and fails: an
-assertion, another error, a crash. So a test that does a call again after a refusal, and compares what stood before with
-what stands after it, shows that a refused call changes nothing. It needs a C compiler, `cc`, and what the test was
-built for.
+A run may pass, or end for want of memory: with an error that says so, or at an `expect` of a value for which there was
+none (`memory: AllocError`). Anything else is listed and fails: an assertion, another error, a crash. So a test that does
+a call again after a refusal, and compares what stood before with what stands after it, shows that a refused call changes
+nothing. It needs a C compiler, `cc`, and what the test was built for.
 """
 import os
 import pathlib
@@ -18,6 +18,7 @@ import tempfile
 
 ROOT = pathlib.Path(__file__).resolve().parent.parent
 REFUSED = ("AllocError", "AllocFailed", "OutOfMemory", "out of memory", "Stopped")
+UNEXPECTED = re.compile(r"^[a-z ]+: (AllocError|AllocFailed|OutOfMemory)$", re.M)
 MOST = 20_000
 
 
@@ -43,7 +44,7 @@ def verdict(status, told):
     if status == 0:
         return "passed"
     errors = re.findall(r"^error: (.*)$", told, re.M)
-    if errors and any(word in errors[-1] for word in REFUSED):
+    if errors and any(word in errors[-1] for word in REFUSED) or UNEXPECTED.search(told):
         return "refused"
     return f"status {status}: {' '.join(told.split())[:200]}"
 

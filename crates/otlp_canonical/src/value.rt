@@ -189,9 +189,11 @@ fn short_front(text: &[u8], number: u8) -> Option<(usize, &[u8])>
 
 /// Goes over a key with a string in ASCII, a bool or a number behind which nothing stands, where each length has one
 /// byte, which most attributes are. One with a string is looked at once for all: in ASCII such lengths are, too.
+/// `Some(None)` where each length has one byte and the value has no string: then `plain_pair` needn't be asked.
 #[inline(always)]
-fn short_pair(text: &[u8], room: u32) -> Option<()>
-    ensures { IfSome result (λ u. Whole key_value_text (SoundKeyValue room) text.now) }
+fn short_pair(text: &[u8], room: u32) -> Option<Option<()>>
+    ensures { IfSome result (λ sound. IfSome sound
+        (λ u. Whole key_value_text (SoundKeyValue room) text.now)) }
 {
     if room < 2 {
         return None;
@@ -209,12 +211,16 @@ fn short_pair(text: &[u8], room: u32) -> Option<()>
         if key_size >= 128 || value_size >= 128 {
             return None;
         }
-        return scalar_pair(key, value);
+        return Some(scalar_pair(key, value));
     };
     if string.len() != string_size {
         return None;
     }
-    if text.is_ascii() { Some(()) } else { None }
+    if text.is_ascii() {
+        Some(Some(()))
+    } else {
+        None
+    }
 }
 
 /// Goes over a key with a string, a bool or a number behind which nothing stands, whose lengths have any number of
@@ -295,10 +301,11 @@ fn any_pair(text: &[u8], room: u32) -> Option<()>
 pub fn key_value(text: &[u8], room: u32) -> Option<()>
     ensures { IfSome result (λ u. Whole key_value_text (SoundKeyValue room) text.now) }
 {
-    if short_pair(text, room).is_some() {
-        return Some(());
-    }
-    if may_be_plain(text) && plain_pair(text, room).is_some() {
+    if let Some(sound) = short_pair(text, room) {
+        if sound.is_some() {
+            return sound;
+        }
+    } else if may_be_plain(text) && plain_pair(text, room).is_some() {
         return Some(());
     }
     any_pair(text, room)

@@ -6,8 +6,8 @@
 //! of a shard of its tenants, so that each of them was told what its own steps say, whatever threads did; and that each
 //! entry is one call's (`specs/Logs`).
 //!
-//! It stands on `machine_hub` for the shards behind their locks, on `shard_machine` for what a shard is, and on
-//! `tail_settings` for the tenants. Its rules come from no public text.
+//! It stands on `machine_hub` for the shards behind their locks, on `shard_machine` for what a shard is, on `audit_log`
+//! for entries kept in little room, and on `tail_settings` for the tenants. Its rules come from no public text.
 #![tactic(auto)]
 
 ghost use Rattle.shared_hub.specs.Logs.{EachCallEndsARun, EachCallEndsAHistory, EachLookSeesARun, EachLookSeesAHistory, LogsTellByOwnSteps};
