@@ -3,7 +3,6 @@
 use shard_agenda::Agenda;
 use std::alloc::AllocError;
 use std::process::Abort;
-use std::test::Fail;
 
 /// What becomes of a member.
 #[derive(Clone, Copy)]
@@ -62,26 +61,23 @@ fn apply(agenda: &mut Agenda, member: u32, change: Change) -> Result<Option<u64>
 }
 
 /// Takes these turns, and looks who goes first after each.
-fn take_turns(rt: &impl Abort, agenda: &mut Agenda, turns: &[Turn]) -> Result<(), AllocError> {
+fn take_turns(rt: &impl Abort, agenda: &mut Agenda, turns: &[Turn]) {
     for (member, change, moment, first) in turns {
-        apply(agenda, *member, *change)?;
+        apply(agenda, *member, *change).expect(rt, "memory");
         assert!(rt; agenda.first_due(*moment) == *first, "{member}");
     }
-    Ok(())
 }
 
 #[test]
-fn the_least_moment_and_number_goes_first(rt: HostRuntime) -> Result<(), Fail> {
+fn the_least_moment_and_number_goes_first(rt: HostRuntime) {
     let mut agenda = Agenda::new(rt.alloc());
-    take_turns(&rt, &mut agenda, &TWO)?;
-    Ok(())
+    take_turns(&rt, &mut agenda, &TWO);
 }
 
 #[test]
-fn who_was_dismissed_has_no_turn(rt: HostRuntime) -> Result<(), Fail> {
+fn who_was_dismissed_has_no_turn(rt: HostRuntime) {
     let mut agenda = Agenda::new(rt.alloc());
-    take_turns(&rt, &mut agenda, &FIVE)?;
-    Ok(())
+    take_turns(&rt, &mut agenda, &FIVE);
 }
 
 /// A member, what becomes of it, and when the first of all is ready then.
@@ -105,18 +101,16 @@ fn is_next(agenda: &Agenda, member: u32, ready: Option<u64>, next: Option<u64>) 
 }
 
 /// Goes through these changes, and looks what is next after each.
-fn follow(rt: &impl Abort, agenda: &mut Agenda) -> Result<(), AllocError> {
+fn follow(rt: &impl Abort, agenda: &mut Agenda) {
     for (member, change, next) in NEXT {
-        let ready = apply(agenda, member, change)?;
+        let ready = apply(agenda, member, change).expect(rt, "memory");
         assert!(rt; is_next(agenda, member, ready, next), "{member}");
     }
-    Ok(())
 }
 
 #[test]
-fn the_least_moment_is_next(rt: HostRuntime) -> Result<(), Fail> {
+fn the_least_moment_is_next(rt: HostRuntime) {
     let mut agenda = Agenda::new(rt.alloc());
     assert!(rt; is_next(&agenda, 3, None, None));
-    follow(&rt, &mut agenda)?;
-    Ok(())
+    follow(&rt, &mut agenda);
 }

@@ -5,7 +5,6 @@ use crate::load::trace_id;
 use decision_cache::{DecisionCaches, HashKeys};
 use std::alloc::{AllocError, Global};
 use std::process::Abort;
-use std::test::Fail;
 
 /// How many calls a test makes of a full cache.
 const CALLS: u64 = 100_000;
@@ -63,80 +62,73 @@ fn is_done(
 }
 
 /// How many calls of a full cache of so many ids do what they are to do.
-fn done(alloc: Global, size: u32, call: Call, calls: u64) -> Result<u64, AllocError> {
+fn done(rt: &impl Abort, alloc: Global, size: u32, call: Call, calls: u64) -> u64 {
     let keys = HashKeys {
         first: 0x0123_4567_89ab_cdef,
         second: 7,
     };
-    let mut caches = DecisionCaches::new(alloc, size, 0, keys)?;
-    let traces = decide_all(&mut caches, 0, u64::from(size))?;
+    let mut caches = DecisionCaches::new(alloc, size, 0, keys).expect(rt, "memory");
+    let traces = decide_all(&mut caches, 0, u64::from(size)).expect(rt, "memory");
     let mut done: u64 = 0;
     for number in 0..calls {
-        if is_done(&mut caches, call, traces, number)? {
+        if is_done(&mut caches, call, traces, number).expect(rt, "memory") {
             done = done.saturating_add(1);
         }
     }
-    Ok(done)
+    done
 }
 
 /// All these calls of a full cache do what they are to do.
-fn all_are_done(
-    rt: &impl Abort,
-    alloc: Global,
-    size: u32,
-    call: Call,
-    calls: u64,
-) -> Result<(), Fail> {
-    assert!(rt; done(alloc, size, call, calls)? == calls);
-    Ok(())
+fn all_are_done(rt: &impl Abort, alloc: Global, size: u32, call: Call, calls: u64) {
+    assert!(rt; done(rt, alloc, size, call, calls) == calls);
 }
 
 #[test]
-fn a_thousand_ids(rt: HostRuntime) -> Result<(), Fail> {
-    all_are_done(&rt, rt.alloc(), 1_000, Call::Decide, 0)
+fn a_thousand_ids(rt: HostRuntime) {
+    all_are_done(&rt, rt.alloc(), 1_000, Call::Decide, 0);
 }
 
 #[test]
-fn a_thousand_ids_and_decisions(rt: HostRuntime) -> Result<(), Fail> {
-    all_are_done(&rt, rt.alloc(), 1_000, Call::Decide, CALLS)
+fn a_thousand_ids_and_decisions(rt: HostRuntime) {
+    all_are_done(&rt, rt.alloc(), 1_000, Call::Decide, CALLS);
 }
 
 #[test]
-fn a_thousand_ids_that_are_found(rt: HostRuntime) -> Result<(), Fail> {
-    all_are_done(&rt, rt.alloc(), 1_000, Call::Find, CALLS)
+fn a_thousand_ids_that_are_found(rt: HostRuntime) {
+    all_are_done(&rt, rt.alloc(), 1_000, Call::Find, CALLS);
 }
 
 #[test]
-fn a_thousand_ids_beside_others(rt: HostRuntime) -> Result<(), Fail> {
-    all_are_done(&rt, rt.alloc(), 1_000, Call::Miss, CALLS)
+fn a_thousand_ids_beside_others(rt: HostRuntime) {
+    all_are_done(&rt, rt.alloc(), 1_000, Call::Miss, CALLS);
 }
 
 #[test]
-fn a_thousand_ids_that_are_followed(rt: HostRuntime) -> Result<(), Fail> {
-    all_are_done(&rt, rt.alloc(), 1_000, Call::Follow, CALLS)
+fn a_thousand_ids_that_are_followed(rt: HostRuntime) {
+    all_are_done(&rt, rt.alloc(), 1_000, Call::Follow, CALLS);
 }
 
 #[test]
-fn a_million_ids(rt: HostRuntime) -> Result<(), Fail> {
-    all_are_done(&rt, rt.alloc(), 1_000_000, Call::Decide, 0)
+fn a_million_ids(rt: HostRuntime) {
+    all_are_done(&rt, rt.alloc(), 1_000_000, Call::Decide, 0);
 }
 
 #[test]
-fn a_million_ids_and_decisions(rt: HostRuntime) -> Result<(), Fail> {
-    all_are_done(&rt, rt.alloc(), 1_000_000, Call::Decide, CALLS)
+fn a_million_ids_and_decisions(rt: HostRuntime) {
+    all_are_done(&rt, rt.alloc(), 1_000_000, Call::Decide, CALLS);
 }
 
 #[test]
-fn a_million_ids_that_are_found(rt: HostRuntime) -> Result<(), Fail> {
-    all_are_done(&rt, rt.alloc(), 1_000_000, Call::Find, CALLS)
+fn a_million_ids_that_are_found(rt: HostRuntime) {
+    all_are_done(&rt, rt.alloc(), 1_000_000, Call::Find, CALLS);
 }
 
 #[test]
-fn a_million_ids_beside_others(rt: HostRuntime) -> Result<(), Fail> {
-    all_are_done(&rt, rt.alloc(), 1_000_000, Call::Miss, CALLS)
+fn a_million_ids_beside_others(rt: HostRuntime) {
+    all_are_done(&rt, rt.alloc(), 1_000_000, Call::Miss, CALLS);
 }
 
 #[test]
-fn a_million_ids_that_are_followed(rt: HostRuntime) -> Result<(), Fail> {
-    all_are_done(&rt, rt.alloc(), 1_000_000, Call::Follow, CALLS)
+fn a_million_ids_that_are_followed(rt: HostRuntime) {
+    all_are_done(&rt, rt.alloc(), 1_000_000, Call::Follow, CALLS);
 }

@@ -6,7 +6,6 @@ use std::alloc::{AllocError, Global};
 use std::io;
 use std::process::Abort;
 use std::random::RandomSource;
-use std::test::Fail;
 
 const KEYS: HashKeys = HashKeys {
     first: 0x0123_4567_89ab_cdef,
@@ -73,17 +72,13 @@ fn told(caches: &DecisionCaches) -> [u32; 6] {
 }
 
 /// What a call gives. Where memory is refused, the same ids are found, and it is done again.
-fn given_at_last(
-    rt: &impl Abort,
-    caches: &mut DecisionCaches,
-    step: &Step<'_>,
-) -> Result<u32, AllocError> {
+fn given_at_last(rt: &impl Abort, caches: &mut DecisionCaches, step: &Step<'_>) -> u32 {
     let before = told(caches);
     if let Ok(number) = given(caches, step) {
-        return Ok(number);
+        return number;
     }
     assert!(rt; told(caches) == before);
-    given(caches, step)
+    given(caches, step).expect(rt, "memory")
 }
 
 /// Tenant 7 has a cache of two sampled ids and one of one other, tenant 8 none of sampled ids and one of three others.
@@ -142,11 +137,7 @@ find 8 4 = 1
 find 7 3 = 2";
 
 /// Tells the story to the caches of both tenants.
-fn tell(
-    rt: &impl Abort,
-    seven: &mut DecisionCaches,
-    eight: &mut DecisionCaches,
-) -> Result<(), AllocError> {
+fn tell(rt: &impl Abort, seven: &mut DecisionCaches, eight: &mut DecisionCaches) {
     for line in STORY.lines() {
         let step = step_of(line);
         let answer = if step.tenant == 7 {
@@ -154,27 +145,21 @@ fn tell(
         } else {
             given_at_last(rt, eight, &step)
         };
-        assert!(rt; answer? == step.wanted[0], "at {line}");
+        assert!(rt; answer == step.wanted[0], "at {line}");
     }
-    Ok(())
 }
 
 /// The same where the second tenant's caches are new.
-fn tell_beside(
-    rt: &impl Abort,
-    alloc: Global,
-    seven: &mut DecisionCaches,
-) -> Result<(), AllocError> {
-    let mut eight = DecisionCaches::new(alloc, 0, 3, KEYS)?;
-    tell(rt, seven, &mut eight)
+fn tell_beside(rt: &impl Abort, alloc: Global, seven: &mut DecisionCaches) {
+    let mut eight = DecisionCaches::new(alloc, 0, 3, KEYS).expect(rt, "memory");
+    tell(rt, seven, &mut eight);
 }
 
 // Each run with one allocation refused has to end well, too.
 #[test]
-fn decisions_are_found_until_others_were_used_later(rt: HostRuntime) -> Result<(), Fail> {
-    let mut seven = DecisionCaches::new(rt.alloc(), 2, 1, KEYS)?;
-    tell_beside(&rt, rt.alloc(), &mut seven)?;
-    Ok(())
+fn decisions_are_found_until_others_were_used_later(rt: HostRuntime) {
+    let mut seven = DecisionCaches::new(rt.alloc(), 2, 1, KEYS).expect(&rt, "memory");
+    tell_beside(&rt, rt.alloc(), &mut seven);
 }
 
 /// When each id had its last event in a cache, 0 for never.
@@ -269,30 +254,25 @@ fn step_by(pick: u32) -> Step<'static> {
 }
 
 /// Goes through calls that chance picks, and tells how many there were before caches and events said something else.
-fn alike(
-    rt: &impl Abort,
-    caches: &mut DecisionCaches,
-    plain: &mut Plain,
-    calls: u32,
-) -> Result<u32, AllocError> {
+fn alike(rt: &impl Abort, caches: &mut DecisionCaches, plain: &mut Plain, calls: u32) -> u32 {
     let mut picked: u64 = 1;
     for moment in 1..calls {
         picked = picked
             .wrapping_mul(6_364_136_223_846_793_005)
             .wrapping_add(1_442_695_040_888_963_407);
         let step = step_by(small(picked >> 33));
-        given_at_last(rt, caches, &step)?;
+        given_at_last(rt, caches, &step);
         plain.follow(&step, moment);
         if told(caches) != plain.told() {
-            return Ok(moment);
+            return moment;
         }
     }
-    Ok(calls)
+    calls
 }
 
 /// The same of new caches of this size.
-fn alike_of(rt: &impl Abort, alloc: Global, size: u32, calls: u32) -> Result<u32, AllocError> {
-    let mut caches = DecisionCaches::new(alloc, size, size, KEYS)?;
+fn alike_of(rt: &impl Abort, alloc: Global, size: u32, calls: u32) -> u32 {
+    let mut caches = DecisionCaches::new(alloc, size, size, KEYS).expect(rt, "memory");
     let never = BothEvents {
         sampled: [0; 6],
         other: [0; 6],
@@ -329,26 +309,23 @@ impl RandomSource for Broken {
 }
 
 #[test]
-fn keys_are_what_the_source_gives(rt: HostRuntime) -> Result<(), Fail> {
-    let given = HashKeys::draw(&Counting)?;
+fn keys_are_what_the_source_gives(rt: HostRuntime) {
+    let given = HashKeys::draw(&Counting).expect(&rt, "keys");
     assert!(rt; given.first == 0x0807_0605_0403_0201 && given.second == given.first);
     assert!(rt; HashKeys::draw(&Broken).is_err());
-    Ok(())
 }
 
 #[test]
-fn keys_of_the_system_differ(rt: HostRuntime) -> Result<(), Fail> {
-    let one = HashKeys::draw(&rt)?;
-    let other = HashKeys::draw(&rt)?;
+fn keys_of_the_system_differ(rt: HostRuntime) {
+    let one = HashKeys::draw(&rt).expect(&rt, "keys");
+    let other = HashKeys::draw(&rt).expect(&rt, "keys");
     assert!(rt; one.first != other.first && one.second != other.second && one.first != one.second);
     assert!(rt; one.of_tenant(1).first == one.first && one.of_tenant(1).second != one.second);
-    Ok(())
 }
 
 #[test]
-fn caches_have_the_ids_that_their_events_say(rt: HostRuntime) -> Result<(), Fail> {
+fn caches_have_the_ids_that_their_events_say(rt: HostRuntime) {
     for size in [1_u32, 2, 3] {
-        assert!(rt; alike_of(&rt, rt.alloc(), size, 500)? == 500, "with {size}");
+        assert!(rt; alike_of(&rt, rt.alloc(), size, 500) == 500, "with {size}");
     }
-    Ok(())
 }

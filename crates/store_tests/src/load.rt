@@ -2,9 +2,8 @@
 //! time and the memory of each test here.
 
 use span_pool::{SharedKeys, SpanPool, StoredSpan, TextKeys};
-use std::alloc::{AllocError, Global};
+use std::alloc::Global;
 use std::process::Abort;
-use std::test::Fail;
 use text_slice::TextSlice;
 use trace_rows::{Keys, Row, TraceRows};
 
@@ -54,56 +53,51 @@ struct Post {
 }
 
 /// A post of the tenant's.
-fn post_of(alloc: Global, tenant: u32) -> Result<Post, AllocError> {
+fn post_of(rt: &impl Abort, alloc: Global, tenant: u32) -> Post {
     let mut bytes = Vec::new(alloc);
     for _ in 0..SPANS_OF_A_TRACE {
-        bytes.extend_from_slice(TEXT)?;
+        bytes.extend_from_slice(TEXT).expect(rt, "memory");
     }
-    let body = TextSlice::from_vec(alloc, bytes)?;
-    let source = SharedKeys::of(alloc, tenant, NO_KEYS)?;
-    Ok(Post { body, source })
+    let body = TextSlice::from_vec(alloc, bytes).expect(rt, "memory");
+    let source = SharedKeys::of(alloc, tenant, NO_KEYS).expect(rt, "memory");
+    Post { body, source }
 }
 
 /// The span of this number in its trace's post, which shares body and keys with the others.
-fn stored(rt: &impl Abort, post: &Post, number: u64) -> Result<StoredSpan, AllocError> {
+fn stored(rt: &impl Abort, post: &Post, number: u64) -> StoredSpan {
     let start = (number as usize).saturating_mul(TEXT.len());
     let end = start.saturating_add(TEXT.len());
     assert!(rt; start <= end && end <= post.body.len());
-    let text = post.body.slice(start, end)?;
-    let source = post.source.shared()?;
-    Ok(StoredSpan::of(source, text))
+    let text = post.body.slice(start, end).expect(rt, "memory");
+    let source = post.source.shared().expect(rt, "memory");
+    StoredSpan::of(source, text)
 }
 
 /// A span of a post comes into the pool, and joins its trace's row or opens it.
-fn come(
-    rt: &impl Abort,
-    alloc: Global,
-    load: &mut Load,
-    post: &Post,
-    span: u64,
-) -> Result<(), AllocError> {
+fn come(rt: &impl Abort, alloc: Global, load: &mut Load, post: &Post, span: u64) {
     let trace = span / SPANS_OF_A_TRACE;
     let (tenant, number) = place(load, trace);
-    let stored = stored(rt, post, span % SPANS_OF_A_TRACE)?;
-    let key = load.pool.put(stored)?;
+    let stored = stored(rt, post, span % SPANS_OF_A_TRACE);
+    let key = load.pool.put(stored).expect(rt, "memory");
     if let Some(seat) = load.table.latest_row(tenant, trace_id(trace)) {
         let note = match load.table.row(tenant, seat) {
             Some(row) => row.note.max(span),
             None => span,
         };
-        let _ = load.table.join(tenant, seat, key, note)?;
-        return Ok(());
+        load.table
+            .join(tenant, seat, key, note)
+            .expect(rt, "memory");
+        return;
     }
     assert!(rt; load.table.row(tenant, number).is_none());
     let row = Row {
         trace: trace_id(trace),
         due: span,
-        keys: Keys::one(alloc, key)?,
+        keys: Keys::one(alloc, key).expect(rt, "memory"),
         note: span,
         sampled: false,
     };
-    load.table.open(tenant, number, row)?;
-    Ok(())
+    load.table.open(tenant, number, row).expect(rt, "memory");
 }
 
 /// These spans leave the pool.
@@ -123,38 +117,26 @@ fn leave(alloc: Global, load: &mut Load, trace: u64) -> u64 {
 }
 
 /// The spans of a trace come, in one post.
-fn trace_comes(
-    rt: &impl Abort,
-    alloc: Global,
-    load: &mut Load,
-    trace: u64,
-) -> Result<(), AllocError> {
+fn trace_comes(rt: &impl Abort, alloc: Global, load: &mut Load, trace: u64) {
     let first = trace.saturating_mul(SPANS_OF_A_TRACE);
     let (tenant, _) = place(load, trace);
-    let post = post_of(alloc, tenant)?;
+    let post = post_of(rt, alloc, tenant);
     for span in 0..SPANS_OF_A_TRACE {
-        come(rt, alloc, load, &post, first.saturating_add(span))?;
+        come(rt, alloc, load, &post, first.saturating_add(span));
     }
-    Ok(())
 }
 
 /// All these traces come, and the oldest leaves where more than so many would be held. The answer is how many spans
 /// left.
-fn all_come(
-    rt: &impl Abort,
-    alloc: Global,
-    load: &mut Load,
-    traces: u64,
-    kept: u64,
-) -> Result<u64, AllocError> {
+fn all_come(rt: &impl Abort, alloc: Global, load: &mut Load, traces: u64, kept: u64) -> u64 {
     let mut left: u64 = 0;
     for trace in 0..traces {
         if trace >= kept {
             left = left.saturating_add(leave(alloc, load, trace - kept));
         }
-        trace_comes(rt, alloc, load, trace)?;
+        trace_comes(rt, alloc, load, trace);
     }
-    Ok(left)
+    left
 }
 
 /// All these traces leave. The answer is how many spans left.
@@ -167,62 +149,49 @@ fn all_leave(alloc: Global, load: &mut Load, traces: u64) -> u64 {
 }
 
 /// So many spans pass through the stores, which hold so many of them. The answer is how many left.
-fn passed(
-    rt: &impl Abort,
-    alloc: Global,
-    spans: u64,
-    held: u64,
-    tenants: u32,
-) -> Result<u64, AllocError> {
+fn passed(rt: &impl Abort, alloc: Global, spans: u64, held: u64, tenants: u32) -> u64 {
     let mut load = Load {
         pool: SpanPool::new(alloc),
         table: TraceRows::new(alloc),
         tenants,
     };
     let traces = spans / SPANS_OF_A_TRACE;
-    let left = all_come(rt, alloc, &mut load, traces, held / SPANS_OF_A_TRACE)?;
-    Ok(left.saturating_add(all_leave(alloc, &mut load, traces)))
+    let left = all_come(rt, alloc, &mut load, traces, held / SPANS_OF_A_TRACE);
+    left.saturating_add(all_leave(alloc, &mut load, traces))
 }
 
 /// So many spans pass through the stores, and all of them leave.
-fn all_pass(
-    rt: &impl Abort,
-    alloc: Global,
-    spans: u64,
-    held: u64,
-    tenants: u32,
-) -> Result<(), Fail> {
-    assert!(rt; passed(rt, alloc, spans, held, tenants)? == spans);
-    Ok(())
+fn all_pass(rt: &impl Abort, alloc: Global, spans: u64, held: u64, tenants: u32) {
+    assert!(rt; passed(rt, alloc, spans, held, tenants) == spans);
 }
 
 #[test]
-fn a_thousand_held_of_one_tenant(rt: HostRuntime) -> Result<(), Fail> {
-    all_pass(&rt, rt.alloc(), SPANS, 1_000, 1)
+fn a_thousand_held_of_one_tenant(rt: HostRuntime) {
+    all_pass(&rt, rt.alloc(), SPANS, 1_000, 1);
 }
 
 #[test]
-fn a_million_held_of_one_tenant(rt: HostRuntime) -> Result<(), Fail> {
-    all_pass(&rt, rt.alloc(), SPANS, 1_000_000, 1)
+fn a_million_held_of_one_tenant(rt: HostRuntime) {
+    all_pass(&rt, rt.alloc(), SPANS, 1_000_000, 1);
 }
 
 #[test]
-fn a_thousand_held_of_a_thousand_tenants(rt: HostRuntime) -> Result<(), Fail> {
-    all_pass(&rt, rt.alloc(), SPANS, 1_000, 1_000)
+fn a_thousand_held_of_a_thousand_tenants(rt: HostRuntime) {
+    all_pass(&rt, rt.alloc(), SPANS, 1_000, 1_000);
 }
 
 #[test]
-fn a_million_held_of_a_thousand_tenants(rt: HostRuntime) -> Result<(), Fail> {
-    all_pass(&rt, rt.alloc(), SPANS, 1_000_000, 1_000)
+fn a_million_held_of_a_thousand_tenants(rt: HostRuntime) {
+    all_pass(&rt, rt.alloc(), SPANS, 1_000_000, 1_000);
 }
 
 // The second million takes the room that the first one left.
 #[test]
-fn two_million_pass_a_million_held_of_one_tenant(rt: HostRuntime) -> Result<(), Fail> {
-    all_pass(&rt, rt.alloc(), 2 * SPANS, 1_000_000, 1)
+fn two_million_pass_a_million_held_of_one_tenant(rt: HostRuntime) {
+    all_pass(&rt, rt.alloc(), 2 * SPANS, 1_000_000, 1);
 }
 
 #[test]
-fn two_million_pass_a_million_held_of_a_thousand_tenants(rt: HostRuntime) -> Result<(), Fail> {
-    all_pass(&rt, rt.alloc(), 2 * SPANS, 1_000_000, 1_000)
+fn two_million_pass_a_million_held_of_a_thousand_tenants(rt: HostRuntime) {
+    all_pass(&rt, rt.alloc(), 2 * SPANS, 1_000_000, 1_000);
 }

@@ -4,7 +4,6 @@
 use packed_text::PackedText;
 use std::alloc::{AllocError, Global};
 use std::process::Abort;
-use std::test::Fail;
 
 /// A piece of a text.
 #[derive(Clone, Copy)]
@@ -109,50 +108,46 @@ fn add(text: &mut Vec<u8>, piece: Piece) -> Result<(), AllocError> {
 }
 
 /// How much room a text takes, if it is the same again.
-fn packed_size(alloc: Global, text: &[u8]) -> Result<Option<usize>, AllocError> {
-    let packed = PackedText::of(alloc, text)?;
-    let again = packed.unpacked(alloc)?;
+fn packed_size(rt: &impl Abort, alloc: Global, text: &[u8]) -> Option<usize> {
+    let packed = PackedText::of(alloc, text).expect(rt, "memory");
+    let again = packed.unpacked(alloc).expect(rt, "memory");
     if again.as_slice() == text {
-        Ok(Some(packed.size()))
+        Some(packed.size())
     } else {
-        Ok(None)
+        None
     }
 }
 
-fn size_of_pieces(alloc: Global, pieces: &[Piece]) -> Result<Option<usize>, AllocError> {
+fn size_of_pieces(rt: &impl Abort, alloc: Global, pieces: &[Piece]) -> Option<usize> {
     let mut text = Vec::new(alloc);
     for piece in pieces {
-        add(&mut text, *piece)?;
+        add(&mut text, *piece).expect(rt, "memory");
     }
-    packed_size(alloc, text.as_slice())
+    packed_size(rt, alloc, text.as_slice())
 }
 
 #[test]
-fn texts_are_the_same_again_and_take_the_room_of_what_does_not_repeat(
-    rt: HostRuntime,
-) -> Result<(), Fail> {
+fn texts_are_the_same_again_and_take_the_room_of_what_does_not_repeat(rt: HostRuntime) {
     for case in &CASES {
-        assert!(rt; size_of_pieces(rt.alloc(), case.pieces)? == Some(case.size));
+        assert!(rt; size_of_pieces(&rt, rt.alloc(), case.pieces) == Some(case.size));
     }
-    Ok(())
 }
 
 /// A hundred parts of 64 bytes, of which the last four are each part's own.
-fn like_parts(alloc: Global) -> Result<Vec<u8>, AllocError> {
+fn like_parts(rt: &impl Abort, alloc: Global) -> Vec<u8> {
     let mut text = Vec::new(alloc);
     for own in 100u8..200 {
-        add(&mut text, Piece::Count(60))?;
-        add(&mut text, Piece::Run(own, 4))?;
+        add(&mut text, Piece::Count(60)).expect(rt, "memory");
+        add(&mut text, Piece::Run(own, 4)).expect(rt, "memory");
     }
-    Ok(text)
+    text
 }
 
 /// The first is kept, and of each other one a repeat and four bytes, or a few more where the repeat is seen late.
 #[test]
-fn a_hundred_like_parts_take_a_fifth(rt: HostRuntime) -> Result<(), Fail> {
-    let text = like_parts(rt.alloc())?;
+fn a_hundred_like_parts_take_a_fifth(rt: HostRuntime) {
+    let text = like_parts(&rt, rt.alloc());
     assert!(rt; text.len() == 6_400);
-    let size = packed_size(rt.alloc(), text.as_slice())?.unwrap_or(6_400);
+    let size = packed_size(&rt, rt.alloc(), text.as_slice()).unwrap_or(6_400);
     assert!(rt; size <= 1_280);
-    Ok(())
 }

@@ -10,7 +10,6 @@ use span_pool::{
 use std::alloc::{AllocError, Global};
 use std::mem::size_of;
 use std::process::Abort;
-use std::test::Fail;
 use text_slice::TextSlice;
 
 /// A resource of a schema, and a scope of none.
@@ -43,11 +42,10 @@ fn has_all(span: &StoredSpan, name: &[u8]) -> bool {
 }
 
 #[test]
-fn what_was_given_is_there_in_24_bytes(rt: HostRuntime) -> Result<(), Fail> {
-    let span = span(rt.alloc(), 7, 1)?;
+fn what_was_given_is_there_in_24_bytes(rt: HostRuntime) {
+    let span = span(rt.alloc(), 7, 1).expect(&rt, "memory");
     assert!(rt; has_all(&span, FIRST));
     assert!(rt; size_of::<StoredSpan>() == 24);
-    Ok(())
 }
 
 /// The first span, which shares a source's keys.
@@ -56,21 +54,20 @@ fn first_of(alloc: Global, source: &SharedKeys) -> Result<StoredSpan, AllocError
 }
 
 /// Whether the keys stay with a source and the first span that shares them, and with the second once it is the last.
-fn keys_stay(alloc: Global, source: SharedKeys) -> Result<bool, AllocError> {
-    let first = first_of(alloc, &source)?;
+fn keys_stay(rt: &impl Abort, alloc: Global, source: SharedKeys) -> bool {
+    let first = first_of(alloc, &source).expect(rt, "memory");
     let at_source = source.owner() == 7 && source.keys() == KEYS;
-    let second = span_of(alloc, source, 2)?;
+    let second = span_of(alloc, source, 2).expect(rt, "memory");
     let at_first = has_all(&first, FIRST);
     drop(first);
-    Ok(at_source && at_first && has_all(&second, SECOND))
+    at_source && at_first && has_all(&second, SECOND)
 }
 
 // The keys stay as long as one of those that share them does.
 #[test]
-fn spans_share_their_keys(rt: HostRuntime) -> Result<(), Fail> {
-    let source = SharedKeys::of(rt.alloc(), 7, KEYS)?;
-    assert!(rt; keys_stay(rt.alloc(), source)?);
-    Ok(())
+fn spans_share_their_keys(rt: HostRuntime) {
+    let source = SharedKeys::of(rt.alloc(), 7, KEYS).expect(&rt, "memory");
+    assert!(rt; keys_stay(&rt, rt.alloc(), source));
 }
 
 fn number_of(span: Option<&StoredSpan>) -> u32 {
@@ -95,19 +92,27 @@ fn owned(pool: &SpanPool<StoredSpan>, tenant: u32) -> [u32; 4] {
 }
 
 /// Puts a span. Where memory is refused, what both own is the same, and the span is there to be put again.
-fn put(
-    rt: &impl Abort,
-    pool: &mut SpanPool<StoredSpan>,
-    span: StoredSpan,
-) -> Result<u32, AllocError> {
+fn put(rt: &impl Abort, pool: &mut SpanPool<StoredSpan>, span: StoredSpan) -> u32 {
     let before = (owned(pool, 7), owned(pool, 8));
     match pool.put(span) {
-        Ok(key) => Ok(key),
+        Ok(key) => key,
         Err(failed) => {
             assert!(rt; (owned(pool, 7), owned(pool, 8)) == before);
-            Ok(pool.put(failed.value)?)
+            pool.put(failed.value).expect(rt, "memory")
         }
     }
+}
+
+/// Puts a span of this owner and number.
+fn come(
+    rt: &impl Abort,
+    alloc: Global,
+    pool: &mut SpanPool<StoredSpan>,
+    owner: u32,
+    number: u32,
+) -> u32 {
+    let span = span(alloc, owner, number).expect(rt, "memory");
+    put(rt, pool, span)
 }
 
 fn taken(pool: &mut SpanPool<StoredSpan>, tenant: u32, key: u32) -> u32 {
@@ -117,21 +122,16 @@ fn taken(pool: &mut SpanPool<StoredSpan>, tenant: u32, key: u32) -> u32 {
     }
 }
 
-fn given(
-    rt: &impl Abort,
-    alloc: Global,
-    pool: &mut SpanPool<StoredSpan>,
-    step: &Step<'_>,
-) -> Result<u32, AllocError> {
+fn given(rt: &impl Abort, alloc: Global, pool: &mut SpanPool<StoredSpan>, step: &Step<'_>) -> u32 {
     match step.call {
-        "put" => put(rt, pool, span(alloc, step.tenant, step.number)?),
-        "take" => Ok(taken(pool, step.tenant, step.number)),
+        "put" => come(rt, alloc, pool, step.tenant, step.number),
+        "take" => taken(pool, step.tenant, step.number),
         "undo" => {
             pool.undo_put(step.tenant, step.number);
-            Ok(0)
+            0
         }
-        "owned" => Ok(number_of(pool.owned(step.tenant, step.number))),
-        _ => Ok(number_of(pool.get(step.number))),
+        "owned" => number_of(pool.owned(step.tenant, step.number)),
+        _ => number_of(pool.get(step.number)),
     }
 }
 
@@ -163,37 +163,34 @@ owned 8 1 = 2";
 
 // A span is taken by its owner alone, and once. Each run with one allocation refused has to end well, too.
 #[test]
-fn each_tenant_owns_and_takes_what_it_put(rt: HostRuntime) -> Result<(), Fail> {
+fn each_tenant_owns_and_takes_what_it_put(rt: HostRuntime) {
     let mut pool = SpanPool::new(rt.alloc());
     for line in STORY.lines() {
         let step = step_of(line);
         assert!(rt;
-            one(given(&rt, rt.alloc(), &mut pool, &step)?) == step.wanted,
+            one(given(&rt, rt.alloc(), &mut pool, &step)) == step.wanted,
             "at {line}"
         );
     }
-    Ok(())
 }
 
 // The pool grows; each run with one allocation refused has to end well, too.
 #[test]
-fn many_spans_come(rt: HostRuntime) -> Result<(), Fail> {
+fn many_spans_come(rt: HostRuntime) {
     let mut pool = SpanPool::new(rt.alloc());
     for _pair in 0..20 {
-        put(&rt, &mut pool, span(rt.alloc(), 7, 1)?)?;
-        put(&rt, &mut pool, span(rt.alloc(), 8, 2)?)?;
+        come(&rt, rt.alloc(), &mut pool, 7, 1);
+        come(&rt, rt.alloc(), &mut pool, 8, 2);
     }
     assert!(rt; owned(&pool, 7) == [1, 0, 1, 0] && owned(&pool, 8) == [0, 2, 0, 2]);
-    Ok(())
 }
 
 #[test]
-fn the_refusal_has_a_text(rt: HostRuntime) -> Result<(), Fail> {
-    let text = format!(in rt.alloc(); "{NotYours}")?;
+fn the_refusal_has_a_text(rt: HostRuntime) {
+    let text = format!(in rt.alloc(); "{NotYours}").expect(&rt, "memory");
     assert!(rt; text.as_str() == "the tenant owns no span at this key");
     each_span_has_one_owner::<StoredSpan>();
     read_spans_are_viewed();
-    Ok(())
 }
 
 /// The definitions, on small inputs, give what was worked out by hand.

@@ -3,7 +3,6 @@
 use crate::story::{Numbers, Step, one, row_number, step_of, two};
 use std::alloc::{AllocError, Global};
 use std::process::Abort;
-use std::test::Fail;
 use trace_rows::{Keys, Row, TraceRows, halves_of};
 
 const TRACE: [u8; 16] = [0x11; 16];
@@ -151,13 +150,13 @@ fn given_at_last(
     alloc: Global,
     table: &mut TraceRows<u32>,
     step: &Step<'_>,
-) -> Result<Numbers, AllocError> {
+) -> Numbers {
     let before = (told(table, 7), told(table, 8));
     if let Ok(numbers) = given(alloc, table, step) {
-        return Ok(numbers);
+        return numbers;
     }
     assert!(rt; (told(table, 7), told(table, 8)) == before);
-    given(alloc, table, step)
+    given(alloc, table, step).expect(rt, "memory")
 }
 
 /// With the number of a row and a key: `open` gives the trace's row before, and `join` the note before. `undo-join`
@@ -262,35 +261,32 @@ waits 8 64 = 20
 waits 8 65 = 21
 seats 8 = 64 65";
 
-fn is_told(rt: &impl Abort, alloc: Global, story: &str) -> Result<(), AllocError> {
+/// A story is told to a new table.
+fn is_told(rt: &impl Abort, alloc: Global, story: &str) {
     let mut table = TraceRows::new(alloc);
     for line in story.lines() {
         let step = step_of(line);
         assert!(rt;
-            given_at_last(rt, alloc, &mut table, &step)? == step.wanted,
+            given_at_last(rt, alloc, &mut table, &step) == step.wanted,
             "at {line}"
         );
     }
-    Ok(())
 }
 
 // Each run with one allocation refused has to end well, too.
 #[test]
-fn rows_open_join_are_decided_and_leave(rt: HostRuntime) -> Result<(), Fail> {
-    is_told(&rt, rt.alloc(), STORY)?;
-    Ok(())
+fn rows_open_join_are_decided_and_leave(rt: HostRuntime) {
+    is_told(&rt, rt.alloc(), STORY);
 }
 
 // The same of this one.
 #[test]
-fn rows_in_the_middle_leave_and_come_again(rt: HostRuntime) -> Result<(), Fail> {
-    is_told(&rt, rt.alloc(), BLOCKS)?;
-    Ok(())
+fn rows_in_the_middle_leave_and_come_again(rt: HostRuntime) {
+    is_told(&rt, rt.alloc(), BLOCKS);
 }
 
 #[test]
-fn an_id_is_two_numbers(rt: HostRuntime) -> Result<(), Fail> {
+fn an_id_is_two_numbers(rt: HostRuntime) {
     let id = [0, 1, 2, 3, 4, 5, 6, 7, 8, 9, 10, 11, 12, 13, 14, 15];
     assert!(rt; halves_of(id) == (0x0001_0203_0405_0607, 0x0809_0a0b_0c0d_0e0f));
-    Ok(())
 }

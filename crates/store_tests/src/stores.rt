@@ -7,7 +7,6 @@ use crate::story::{Numbers, Step, one, row_number, small, step_of, two};
 use std::alloc::{AllocError, Global};
 use std::mem::size_of;
 use std::process::Abort;
-use std::test::Fail;
 use tenant_stores::{Stores, UndoEntry};
 
 /// The span of this number.
@@ -134,35 +133,25 @@ fn given_at_last(
     alloc: Global,
     stores: &mut Stores<u64>,
     step: &Step<'_>,
-) -> Result<Numbers, AllocError> {
+) -> Numbers {
     let before = (told(stores, 7), told(stores, 8));
     if let Ok(numbers) = given(alloc, stores, step) {
-        return Ok(numbers);
+        return numbers;
     }
     assert!(rt; (told(stores, 7), told(stores, 8)) == before);
-    given(alloc, stores, step)
-}
-
-fn tell_to(
-    rt: &impl Abort,
-    alloc: Global,
-    stores: &mut Stores<u64>,
-    story: &str,
-) -> Result<(), AllocError> {
-    for line in story.lines() {
-        let step = step_of(line);
-        assert!(rt;
-            given_at_last(rt, alloc, stores, &step)? == step.wanted,
-            "at {line}"
-        );
-    }
-    Ok(())
+    given(alloc, stores, step).expect(rt, "memory")
 }
 
 /// Tells a story to new stores.
-fn tell(rt: &impl Abort, alloc: Global, story: &str) -> Result<(), AllocError> {
+fn tell(rt: &impl Abort, alloc: Global, story: &str) {
     let mut stores = Stores::new(alloc);
-    tell_to(rt, alloc, &mut stores, story)
+    for line in story.lines() {
+        let step = step_of(line);
+        assert!(rt;
+            given_at_last(rt, alloc, &mut stores, &step) == step.wanted,
+            "at {line}"
+        );
+    }
 }
 
 /// A call a line, with what it gives:
@@ -256,18 +245,16 @@ seats 8 = 1";
 
 // Each run with one allocation refused has to end well, too.
 #[test]
-fn stories_of_two_tenants(rt: HostRuntime) -> Result<(), Fail> {
+fn stories_of_two_tenants(rt: HostRuntime) {
     for story in STORIES.split("\n\n") {
-        tell(&rt, rt.alloc(), story)?;
+        tell(&rt, rt.alloc(), story);
     }
-    Ok(())
 }
 
 // A note of a row's spans has 24 bytes, as policies make it.
 #[test]
-fn what_undoes_a_span_is_told_in_40_bytes(rt: HostRuntime) -> Result<(), Fail> {
+fn what_undoes_a_span_is_told_in_40_bytes(rt: HostRuntime) {
     assert!(rt; size_of::<UndoEntry<[u64; 3]>>() == 40);
-    Ok(())
 }
 
 /// A span joins the first row, and the journal tells so.
@@ -333,20 +320,19 @@ fn is_posted(stores: &Stores<u64>) -> bool {
 
 /// Whether a post's spans come where both tenants have a row, and leave as it is taken back. The other tenant has what
 /// it had all along.
-fn is_taken_back(alloc: Global, stores: &mut Stores<u64>) -> Result<bool, AllocError> {
-    let begun = begin(alloc, stores)?;
+fn is_taken_back(rt: &impl Abort, alloc: Global, stores: &mut Stores<u64>) -> bool {
+    let begun = begin(alloc, stores).expect(rt, "memory");
     let (seven, eight) = (told(stores, 7), told(stores, 8));
     let mut journal = Vec::new(alloc);
-    post(alloc, stores, &mut journal)?;
+    post(alloc, stores, &mut journal).expect(rt, "memory");
     let came = is_posted(stores) && told(stores, 7) != seven && told(stores, 8) == eight;
     stores.take_all_back(7, &mut journal);
     let left = journal.is_empty() && told(stores, 7) == seven && told(stores, 8) == eight;
-    Ok(begun && came && left)
+    begun && came && left
 }
 
 #[test]
-fn what_a_post_did_is_taken_back(rt: HostRuntime) -> Result<(), Fail> {
+fn what_a_post_did_is_taken_back(rt: HostRuntime) {
     let mut stores = Stores::new(rt.alloc());
-    assert!(rt; is_taken_back(rt.alloc(), &mut stores)?);
-    Ok(())
+    assert!(rt; is_taken_back(&rt, rt.alloc(), &mut stores));
 }

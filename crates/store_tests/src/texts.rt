@@ -4,7 +4,6 @@ use crate::story::{Step, one, step_of};
 use bytes::Bytes;
 use std::alloc::{AllocError, Global};
 use std::process::Abort;
-use std::test::Fail;
 use text_pool::{CountedText, SharedBytes, TextPool};
 use text_slice::TextSlice;
 
@@ -20,20 +19,19 @@ fn text(alloc: Global, bytes: &[u8]) -> Result<SharedBytes, AllocError> {
 }
 
 #[test]
-fn texts_are_the_same_by_their_bytes(rt: HostRuntime) -> Result<(), Fail> {
-    let first = text(rt.alloc(), FIRST)?;
-    assert!(rt; first.is_same(&text(rt.alloc(), FIRST)?));
-    assert!(rt; !first.is_same(&text(rt.alloc(), THIRD)?));
-    Ok(())
+fn texts_are_the_same_by_their_bytes(rt: HostRuntime) {
+    let first = text(rt.alloc(), FIRST).expect(&rt, "memory");
+    let again = text(rt.alloc(), FIRST).expect(&rt, "memory");
+    let other = text(rt.alloc(), THIRD).expect(&rt, "memory");
+    assert!(rt; first.is_same(&again) && !first.is_same(&other));
 }
 
 #[test]
-fn a_text_is_shared_with_its_bytes(rt: HostRuntime) -> Result<(), Fail> {
-    let first = text(rt.alloc(), FIRST)?;
-    let shared = first.shared()?;
+fn a_text_is_shared_with_its_bytes(rt: HostRuntime) {
+    let first = text(rt.alloc(), FIRST).expect(&rt, "memory");
+    let shared = first.shared().expect(&rt, "memory");
     assert!(rt; shared.bytes().as_slice() == FIRST);
     assert!(rt; shared.is_same(&first));
-    Ok(())
 }
 
 #[test]
@@ -93,18 +91,13 @@ fn given(alloc: Global, pool: &mut TextPool, step: &Step<'_>) -> Result<u32, All
 }
 
 /// What a call gives. Where memory is refused, both tenants have what they had, and it is done again.
-fn given_at_last(
-    rt: &impl Abort,
-    alloc: Global,
-    pool: &mut TextPool,
-    step: &Step<'_>,
-) -> Result<u32, AllocError> {
+fn given_at_last(rt: &impl Abort, alloc: Global, pool: &mut TextPool, step: &Step<'_>) -> u32 {
     let before = (told(pool, 7), told(pool, 8));
     if let Ok(number) = given(alloc, pool, step) {
-        return Ok(number);
+        return number;
     }
     assert!(rt; (told(pool, 7), told(pool, 8)) == before);
-    given(alloc, pool, step)
+    given(alloc, pool, step).expect(rt, "memory")
 }
 
 /// `hold` a text, by its number, and `again` that at a key give its key; `release` lets go of the text at a key, and
@@ -148,31 +141,35 @@ same 8 3 2 = 0
 same 8 3 1 = 1
 same 7 100 200 = 1";
 
+/// A text that is all of a body, and shares it.
+fn text_of_body(rt: &impl Abort, alloc: Global, body: &Bytes) -> SharedBytes {
+    let shared = body.clone().expect(rt, "memory");
+    let slice = TextSlice::of(alloc, shared).expect(rt, "memory");
+    SharedBytes::of(alloc, slice).expect(rt, "memory")
+}
+
 // The text is all of a body. A pool that kept it would hold the body.
 #[test]
-fn no_body_is_held_by_the_pool(rt: HostRuntime) -> Result<(), Fail> {
-    let body = Bytes::copy_from_slice(rt.alloc(), FIRST)?;
-    let text = SharedBytes::of(rt.alloc(), TextSlice::of(rt.alloc(), body.clone()?)?)?;
+fn no_body_is_held_by_the_pool(rt: HostRuntime) {
+    let body = Bytes::copy_from_slice(rt.alloc(), FIRST).expect(&rt, "memory");
+    let text = text_of_body(&rt, rt.alloc(), &body);
     let mut pool = TextPool::new(rt.alloc());
-    let key = pool.hold(7, &text)?;
+    let key = pool.hold(7, &text).expect(&rt, "memory");
     assert!(rt; !body.is_unique());
     drop(text);
-    assert!(rt; body.is_unique());
-    assert!(rt; at(&pool, 7, key) == 1);
-    Ok(())
+    assert!(rt; body.is_unique() && at(&pool, 7, key) == 1);
 }
 
 // Equal texts of two tenants are apart. A key goes to another text after its last use. Each run with one allocation
 // refused has to end well, too.
 #[test]
-fn texts_are_kept_once_a_tenant_until_their_last_use(rt: HostRuntime) -> Result<(), Fail> {
+fn texts_are_kept_once_a_tenant_until_their_last_use(rt: HostRuntime) {
     let mut pool = TextPool::new(rt.alloc());
     for line in STORY.lines() {
         let step = step_of(line);
         assert!(rt;
-            one(given_at_last(&rt, rt.alloc(), &mut pool, &step)?) == step.wanted,
+            one(given_at_last(&rt, rt.alloc(), &mut pool, &step)) == step.wanted,
             "at {line}"
         );
     }
-    Ok(())
 }
