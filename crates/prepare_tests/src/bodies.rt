@@ -3,75 +3,76 @@
 use crate::listed::preparing;
 use crate::sections::{THREE, section_of};
 use crate::texts::{bytes_of, words};
-use otlp_read::read_request;
-use otlp_trace::write_request;
+use otlp_read::{ReadFault, read_request};
+use otlp_trace::{ExportTraceServiceRequest, write_request};
 use otlp_vectors::{FAULTS, VECTORS};
 use std::alloc::Global;
-use std::test::Fail;
+use std::process::Abort;
 use std::thread::Threads;
 use tail_settings::Section;
 
 /// Whether two bodies are prepared as one value.
-fn are_as_one<R: Threads + Sync>(
+fn are_as_one<R: Threads + Abort + Sync>(
     rt: &R,
     alloc: Global,
     section: &Section,
     body: &[u8],
     other: &[u8],
-) -> Result<bool, Fail> {
-    let one = preparing(rt, alloc, section, body, 2)?;
-    let told = preparing(rt, alloc, section, other, 1)?;
-    Ok(one.as_str() == told.as_str())
+) -> bool {
+    let one = preparing(rt, alloc, section, body, 2);
+    let told = preparing(rt, alloc, section, other, 1);
+    one.as_str() == told.as_str()
 }
 
-/// Whether a vector's body is prepared as its canonical text is.
-fn is_same<R: Threads + Sync>(
-    rt: &R,
-    alloc: Global,
-    section: &Section,
-    line: &str,
-) -> Result<bool, Fail> {
-    let (_name, body, canonical) = words(line).ok_or("a line without three words")?;
-    let body = bytes_of(alloc, body)?;
-    let canonical = bytes_of(alloc, canonical)?;
-    are_as_one(rt, alloc, section, body.as_slice(), canonical.as_slice())
+/// A vector's body is prepared as its canonical text is.
+fn assert_same<R: Threads + Abort + Sync>(rt: &R, alloc: Global, section: &Section, line: &str) {
+    let (_name, body, canonical) = words(rt, line);
+    let body = bytes_of(rt, alloc, body);
+    let canonical = bytes_of(rt, alloc, canonical);
+    assert!(rt;
+        are_as_one(rt, alloc, section, body.as_slice(), canonical.as_slice()),
+        "{line}"
+    );
 }
 
 #[test]
-fn vectors_are_prepared_as_their_canonical_texts(rt: HostRuntime) -> Result<(), Fail> {
-    let section = section_of(rt.alloc(), THREE)?;
+fn vectors_are_prepared_as_their_canonical_texts(rt: HostRuntime) {
     assert_eq!(rt; VECTORS.lines().count(), 195);
+    let section = section_of(&rt, rt.alloc(), THREE);
     for line in VECTORS.lines() {
-        assert!(rt; is_same(&rt, rt.alloc(), &section, line)?, "{line}");
+        assert_same(&rt, rt.alloc(), &section, line);
     }
-    Ok(())
 }
 
 /// Whether the body is refused for the fault with this number.
-fn is_refused<R: Threads + Sync>(
+fn is_refused<R: Threads + Abort + Sync>(
     rt: &R,
     alloc: Global,
     section: &Section,
     body: &[u8],
     number: &str,
-) -> Result<bool, Fail> {
-    let told = preparing(rt, alloc, section, body, 1)?;
-    Ok(told.as_str().strip_prefix("fault ") == Some(number))
+) -> bool {
+    let told = preparing(rt, alloc, section, body, 1);
+    told.as_str().strip_prefix("fault ") == Some(number)
+}
+
+/// The line's body is refused for its fault.
+fn assert_refused<R: Threads + Abort + Sync>(rt: &R, alloc: Global, section: &Section, line: &str) {
+    let (_name, number, body) = words(rt, line);
+    let body = bytes_of(rt, alloc, body);
+    assert!(rt;
+        is_refused(rt, alloc, section, body.as_slice(), number),
+        "{line}"
+    );
 }
 
 #[test]
-fn faulty_bodies_are_refused_for_their_fault(rt: HostRuntime) -> Result<(), Fail> {
-    let section = section_of(rt.alloc(), THREE)?;
+fn faulty_bodies_are_refused_for_their_fault(rt: HostRuntime) {
     assert_eq!(rt; FAULTS.lines().count(), 80);
+    let section = section_of(&rt, rt.alloc(), THREE);
     for line in FAULTS.lines() {
-        let (_name, number, body) = words(line).ok_or("a line without three words")?;
-        let body = bytes_of(rt.alloc(), body)?;
-        assert!(rt;
-            is_refused(&rt, rt.alloc(), &section, body.as_slice(), number)?,
-            "{line}"
-        );
+        assert_refused(&rt, rt.alloc(), &section, line);
     }
-    Ok(())
 }
 
 /// The name of the body, the body, and how it is listed, `|` for the note of a span that starts and ends at 0 and meets
@@ -116,40 +117,35 @@ TraceNote_{_met:_1,_start:_1,_end:_7000001_};0";
 const PLAIN: &str = "TraceNote { met: 0, start: 0, end: 0 };";
 
 /// The text with a space for each `_` and the note of a plain span for each `|`.
-fn spelled(alloc: Global, text: &str) -> Result<String, Fail> {
+fn spelled(rt: &impl Abort, alloc: Global, text: &str) -> String {
     let mut out = String::new(alloc);
     for mark in text.chars() {
-        match mark {
-            '_' => out.push(' ')?,
-            '|' => out.push_str(PLAIN)?,
-            _ => out.push(mark)?,
-        }
+        let put = match mark {
+            '_' => out.push(' '),
+            '|' => out.push_str(PLAIN),
+            _ => out.push(mark),
+        };
+        put.expect(rt, "memory");
     }
-    Ok(out)
+    out
 }
 
-/// Whether the line's body is listed so.
-fn is_listed<R: Threads + Sync>(
-    rt: &R,
-    alloc: Global,
-    section: &Section,
-    line: &str,
-) -> Result<bool, Fail> {
-    let (_name, body, wanted) = words(line).ok_or("a line without three words")?;
-    let body = bytes_of(alloc, body)?;
-    let wanted = spelled(alloc, wanted)?;
-    let told = preparing(rt, alloc, section, body.as_slice(), 1)?;
-    Ok(told.as_str() == wanted.as_str())
+/// The line's body is listed so.
+fn assert_listed<R: Threads + Abort + Sync>(rt: &R, alloc: Global, section: &Section, line: &str) {
+    let (_name, body, wanted) = words(rt, line);
+    let body = bytes_of(rt, alloc, body);
+    let wanted = spelled(rt, alloc, wanted);
+    let told = preparing(rt, alloc, section, body.as_slice(), 1);
+    assert!(rt; told.as_str() == wanted.as_str(), "{line}");
 }
 
 #[test]
-fn bodies_have_the_spans_that_were_worked_out(rt: HostRuntime) -> Result<(), Fail> {
-    let section = section_of(rt.alloc(), THREE)?;
+fn bodies_have_the_spans_that_were_worked_out(rt: HostRuntime) {
     assert_eq!(rt; LISTED.lines().count(), 8);
+    let section = section_of(&rt, rt.alloc(), THREE);
     for line in LISTED.lines() {
-        assert!(rt; is_listed(&rt, rt.alloc(), &section, line)?, "{line}");
+        assert_listed(&rt, rt.alloc(), &section, line);
     }
-    Ok(())
 }
 
 /// A body with a resource that stands twice, a scope that does, spans that are canonical and one that isn't, and one
@@ -159,38 +155,45 @@ const WHOLE: &str = "\
 01121e0a1000000000000000000000000000000001120800000000000000022200120c12001a01750a030a01730a000a050a\
 030a0162";
 
+/// What is written of a request.
+fn written(rt: &impl Abort, alloc: Global, request: &ExportTraceServiceRequest) -> Vec<u8> {
+    let mut text = Vec::new(alloc);
+    write_request(alloc, &mut text, request).expect(rt, "memory");
+    text
+}
+
+/// A fault's number as a text.
+fn number_of(rt: &impl Abort, alloc: Global, fault: ReadFault) -> String {
+    let Some(number) = fault.number() else {
+        panic!(rt; "memory: OutOfMemory");
+    };
+    format!(in alloc; "{number}").expect(rt, "memory")
+}
+
 /// Whether a body is prepared as what is written of it when it is read, or refused for the fault of reading it.
-fn is_as_reading<R: Threads + Sync>(
+fn is_as_reading<R: Threads + Abort + Sync>(
     rt: &R,
     alloc: Global,
     section: &Section,
     body: &[u8],
-) -> Result<bool, Fail> {
+) -> bool {
     match read_request(alloc, body) {
         Ok(request) => {
-            let mut text = Vec::new(alloc);
-            write_request(alloc, &mut text, &request)?;
+            let text = written(rt, alloc, &request);
             are_as_one(rt, alloc, section, body, text.as_slice())
         }
         Err(fault) => {
-            let number = fault.number().ok_or("out of memory")?;
-            is_refused(
-                rt,
-                alloc,
-                section,
-                body,
-                format!(in alloc; "{number}")?.as_str(),
-            )
+            let number = number_of(rt, alloc, fault);
+            is_refused(rt, alloc, section, body, number.as_str())
         }
     }
 }
 
 #[test]
-fn cut_bodies_are_as_reading_has_them(rt: HostRuntime) -> Result<(), Fail> {
-    let section = section_of(rt.alloc(), THREE)?;
-    let body = bytes_of(rt.alloc(), WHOLE)?;
+fn cut_bodies_are_as_reading_has_them(rt: HostRuntime) {
+    let section = section_of(&rt, rt.alloc(), THREE);
+    let body = bytes_of(&rt, rt.alloc(), WHOLE);
     for end in 0..=body.len() {
-        assert!(rt; is_as_reading(&rt, rt.alloc(), &section, &body.as_slice()[..end])?);
+        assert!(rt; is_as_reading(&rt, rt.alloc(), &section, &body.as_slice()[..end]));
     }
-    Ok(())
 }

@@ -5,8 +5,8 @@ use bytes::Bytes;
 use otlp_prepare::{NotedSpan, Prepared, SpanOrigin, equal_bodies_are_the_same, prepare};
 use std::alloc::Global;
 use std::mem::size_of;
+use std::process::Abort;
 use std::sync::ArcSlice;
-use std::test::Fail;
 use std::thread::Threads;
 use tail_settings::Section;
 
@@ -31,97 +31,104 @@ const OTHERS: &str = "\
 0a240a001220121c0a1000000000000000000000000000000001120800000000000000011200";
 
 /// The body that these digits spell, prepared for a tenant.
-fn ready<R: Threads + Sync>(
+fn ready<R: Threads + Abort + Sync>(
     rt: &R,
     alloc: Global,
     tenant: u32,
     section: &Section,
     digits: &str,
-) -> Result<Prepared, Fail> {
-    let body = Bytes::from_vec(hex::decode(alloc, digits)?)?;
-    Ok(prepare(rt, alloc, tenant, section, body, 1)?)
+) -> Prepared {
+    let body = hex::decode(alloc, digits).expect(rt, "hexadecimal digits");
+    let body = Bytes::from_vec(body).expect(rt, "memory");
+    prepare(rt, alloc, tenant, section, body, 1).expect(rt, "a good body")
 }
 
 /// Whether a body is equal to `ONE` for the same tenant.
-fn is_as_one<R: Threads + Sync>(
+fn is_as_one<R: Threads + Abort + Sync>(
     rt: &R,
     alloc: Global,
     section: &Section,
     digits: &str,
-) -> Result<bool, Fail> {
-    let one = ready(rt, alloc, 1, section, ONE)?;
-    let other = ready(rt, alloc, 1, section, digits)?;
-    Ok(one == other && other == one)
+) -> bool {
+    let one = ready(rt, alloc, 1, section, ONE);
+    let other = ready(rt, alloc, 1, section, digits);
+    one == other && other == one
+}
+
+/// Each of these is another body than `ONE`.
+fn assert_others<R: Threads + Abort + Sync>(rt: &R, alloc: Global, section: &Section) {
+    assert_eq!(rt; OTHERS.lines().count(), 8);
+    for line in OTHERS.lines() {
+        assert!(rt; !is_as_one(rt, alloc, section, line), "{line}");
+    }
 }
 
 #[test]
-fn bodies_are_equal_by_their_value(rt: HostRuntime) -> Result<(), Fail> {
-    let section = section_of(rt.alloc(), THREE)?;
-    assert!(rt; is_as_one(&rt, rt.alloc(), &section, ONE)?);
-    assert!(rt; is_as_one(&rt, rt.alloc(), &section, SAME)?);
-    assert_eq!(rt; OTHERS.lines().count(), 8);
-    for line in OTHERS.lines() {
-        assert!(rt; !is_as_one(&rt, rt.alloc(), &section, line)?, "{line}");
-    }
-    Ok(())
+fn bodies_are_equal_by_their_value(rt: HostRuntime) {
+    let section = section_of(&rt, rt.alloc(), THREE);
+    assert!(rt; is_as_one(&rt, rt.alloc(), &section, ONE));
+    assert!(rt; is_as_one(&rt, rt.alloc(), &section, SAME));
+    assert_others(&rt, rt.alloc(), &section);
 }
 
 /// Whether a body is told from the same one for another tenant and for fewer policies, of which it has the first.
-fn differs_by_tenant_and_policies<R: Threads + Sync>(
+fn differs_by_tenant_and_policies<R: Threads + Abort + Sync>(
     rt: &R,
     alloc: Global,
     three: &Section,
     first: &Section,
-) -> Result<bool, Fail> {
-    let one = ready(rt, alloc, 1, three, ONE)?;
-    let second = ready(rt, alloc, 2, three, ONE)?;
-    let other = ready(rt, alloc, 1, first, ONE)?;
+) -> bool {
+    let one = ready(rt, alloc, 1, three, ONE);
+    let second = ready(rt, alloc, 2, three, ONE);
+    let other = ready(rt, alloc, 1, first, ONE);
     equal_bodies_are_the_same(&one, &other);
-    Ok(
-        one != second
-            && second.tenant() == 2
-            && one != other
-            && one.has_policies(three.tail_sampling.policies.as_slice())
-            && !one.has_policies(first.tail_sampling.policies.as_slice())
-            && !other.has_policies(three.tail_sampling.policies.as_slice()),
-    )
+    one != second
+        && second.tenant() == 2
+        && one != other
+        && one.has_policies(three.tail_sampling.policies.as_slice())
+        && !one.has_policies(first.tail_sampling.policies.as_slice())
+        && !other.has_policies(three.tail_sampling.policies.as_slice())
 }
 
 #[test]
-fn bodies_of_other_tenants_and_policies_differ(rt: HostRuntime) -> Result<(), Fail> {
-    let three = section_of(rt.alloc(), THREE)?;
-    let first = section_of(rt.alloc(), FIRST)?;
-    assert!(rt; differs_by_tenant_and_policies(&rt, rt.alloc(), &three, &first)?);
-    Ok(())
+fn bodies_of_other_tenants_and_policies_differ(rt: HostRuntime) {
+    let three = section_of(&rt, rt.alloc(), THREE);
+    let first = section_of(&rt, rt.alloc(), FIRST);
+    assert!(rt; differs_by_tenant_and_policies(&rt, rt.alloc(), &three, &first));
 }
 
 /// A body that was prepared where its section was let go.
-fn ready_alone<R: Threads + Sync>(rt: &R, alloc: Global) -> Result<Prepared, Fail> {
-    let section = section_of(alloc, THREE)?;
+fn ready_alone<R: Threads + Abort + Sync>(rt: &R, alloc: Global) -> Prepared {
+    let section = section_of(rt, alloc, THREE);
     ready(rt, alloc, 1, &section, ONE)
 }
 
 #[test]
-fn a_body_outlives_its_section(rt: HostRuntime) -> Result<(), Fail> {
-    let alone = ready_alone(&rt, rt.alloc())?;
-    let section = section_of(rt.alloc(), THREE)?;
-    let one = ready(&rt, rt.alloc(), 1, &section, ONE)?;
+fn a_body_outlives_its_section(rt: HostRuntime) {
+    let alone = ready_alone(&rt, rt.alloc());
+    let section = section_of(&rt, rt.alloc(), THREE);
+    let one = ready(&rt, rt.alloc(), 1, &section, ONE);
     assert!(rt; alone == one);
-    Ok(())
+}
+
+/// So many hold the section's policies.
+fn assert_held_by(rt: &impl Abort, section: &Section, count: usize) {
+    assert_eq!(rt;
+        ArcSlice::strong_count(&section.tail_sampling.policies),
+        count
+    );
 }
 
 #[test]
-fn policies_are_shared_and_not_copied(rt: HostRuntime) -> Result<(), Fail> {
-    let section = section_of(rt.alloc(), THREE)?;
-    let policies = &section.tail_sampling.policies;
-    assert_eq!(rt; ArcSlice::strong_count(policies), 1);
-    let one = ready(&rt, rt.alloc(), 1, &section, ONE)?;
-    let second = ready(&rt, rt.alloc(), 2, &section, ONE)?;
-    assert_eq!(rt; ArcSlice::strong_count(policies), 3);
+fn policies_are_shared_and_not_copied(rt: HostRuntime) {
+    let section = section_of(&rt, rt.alloc(), THREE);
+    assert_held_by(&rt, &section, 1);
+    let one = ready(&rt, rt.alloc(), 1, &section, ONE);
+    let second = ready(&rt, rt.alloc(), 2, &section, ONE);
+    assert_held_by(&rt, &section, 3);
     drop(one);
     drop(second);
-    assert_eq!(rt; ArcSlice::strong_count(policies), 1);
-    Ok(())
+    assert_held_by(&rt, &section, 1);
 }
 
 #[test]

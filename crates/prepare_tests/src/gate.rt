@@ -4,7 +4,6 @@ use span_view::{SpanRef, is_text};
 use std::alloc::AllocError;
 use std::process::Abort;
 use std::sync::atomic::{AtomicBool, Ordering};
-use std::test::Fail;
 use std::thread;
 use tail_notes::note_all;
 use tail_policy::Policy;
@@ -83,21 +82,19 @@ fn checked<'a>(rt: &impl Abort, span: &'a [u8]) -> SpanRef<'a> {
 }
 
 #[test]
-fn the_first_part_waits_for_the_second(rt: HostRuntime) -> Result<(), Fail> {
+fn the_first_part_waits_for_the_second(rt: HostRuntime) {
     let gate = Gate::closed(1_000_000);
     let spans = [checked(&rt, b""), checked(&rt, LATER)];
-    let notes = note_all(&rt, rt.alloc(), &gate, &spans, 2)?;
+    let notes = note_all(&rt, rt.alloc(), &gate, &spans, 2).expect(&rt, "memory");
     assert_eq!(rt; notes.len(), 2);
     assert!(rt; gate.passed.load(Ordering::SeqCst));
-    Ok(())
 }
 
 #[test]
-fn one_part_waits_in_vain(rt: HostRuntime) -> Result<(), Fail> {
+fn one_part_waits_in_vain(rt: HostRuntime) {
     let gate = Gate::closed(2_000);
     let spans = [checked(&rt, b""), checked(&rt, LATER)];
-    let notes = note_all(&rt, rt.alloc(), &gate, &spans, 1)?;
+    let notes = note_all(&rt, rt.alloc(), &gate, &spans, 1).expect(&rt, "memory");
     assert_eq!(rt; notes.len(), 2);
     assert!(rt; !gate.passed.load(Ordering::SeqCst));
-    Ok(())
 }

@@ -5,7 +5,7 @@ ghost use Rattle.std.specs.Prelude.{◌<◌, ◌≤◌};
 use bytes::Bytes;
 use otlp_prepare::{NotedSpan, Prepared, Refusal, SpanOrigin, prepare};
 use std::alloc::Global;
-use std::test::Fail;
+use std::process::Abort;
 use std::thread::Threads;
 use tail_settings::Section;
 use text_pool::SharedBytes;
@@ -14,85 +14,83 @@ use text_pool::SharedBytes;
 pub const TENANT: u32 = 7;
 
 /// Appends what is told, the bytes as hexadecimal digits, and a semicolon.
-fn put(alloc: Global, out: &mut String, what: &str, bytes: &[u8]) -> Result<(), Fail> {
-    out.push_str(what)?;
-    out.push_str(hex::encode(alloc, bytes)?.as_str())?;
-    out.push(';')?;
-    Ok(())
+fn put(rt: &impl Abort, alloc: Global, out: &mut String, what: &str, bytes: &[u8]) {
+    let digits = hex::encode(alloc, bytes).expect(rt, "memory");
+    out.push_str(what).expect(rt, "memory");
+    out.push_str(digits.as_str()).expect(rt, "memory");
+    out.push(';').expect(rt, "memory");
 }
 
-/// The same where there are bytes.
-fn put_some(alloc: Global, out: &mut String, what: &str, bytes: Option<&[u8]>) -> Result<(), Fail> {
-    match bytes {
-        Some(bytes) => put(alloc, out, what, bytes),
-        None => Ok(()),
+/// The same where there is a text.
+fn put_some(
+    rt: &impl Abort,
+    alloc: Global,
+    out: &mut String,
+    what: &str,
+    text: Option<&SharedBytes>,
+) {
+    if let Some(text) = text {
+        put(rt, alloc, out, what, text.bytes().as_slice());
     }
 }
 
-fn text_bytes(text: Option<&SharedBytes>) -> Option<&[u8]> {
-    match text {
-        Some(text) => Some(text.bytes().as_slice()),
-        None => None,
-    }
-}
-
-fn put_origin(alloc: Global, out: &mut String, origin: &SpanOrigin) -> Result<(), Fail> {
-    put_some(alloc, out, "resource ", text_bytes(origin.resource()))?;
-    put_some(alloc, out, "of ", text_bytes(origin.resource_schema_url()))?;
-    put_some(alloc, out, "scope ", text_bytes(origin.scope()))?;
-    put_some(alloc, out, "in ", text_bytes(origin.scope_schema_url()))
+fn put_origin(rt: &impl Abort, alloc: Global, out: &mut String, origin: &SpanOrigin) {
+    put_some(rt, alloc, out, "resource ", origin.resource());
+    put_some(rt, alloc, out, "of ", origin.resource_schema_url());
+    put_some(rt, alloc, out, "scope ", origin.scope());
+    put_some(rt, alloc, out, "in ", origin.scope_schema_url());
 }
 
 fn put_span(
+    rt: &impl Abort,
     alloc: Global,
     out: &mut String,
     origins: &[SpanOrigin],
     span: &NotedSpan,
-) -> Result<(), Fail> {
-    let origin = origins.get(span.origin).ok_or("no origin")?;
-    put_origin(alloc, out, origin)?;
-    put(alloc, out, "trace ", &span.trace)?;
-    put(alloc, out, "span ", span.text.as_slice())?;
-    out.push_str(format!(in alloc; "{:?};", span.note)?.as_str())?;
-    Ok(())
+) {
+    let origin = origins.get(span.origin).expect(rt, "an origin");
+    put_origin(rt, alloc, out, origin);
+    put(rt, alloc, out, "trace ", &span.trace);
+    put(rt, alloc, out, "span ", span.text.as_slice());
+    let note = format!(in alloc; "{:?};", span.note).expect(rt, "memory");
+    out.push_str(note.as_str()).expect(rt, "memory");
 }
 
 /// Each span: its resource, the URL of that's schema, its scope and the URL of that's schema, each where
 /// there is one that isn't an empty URL, then its trace id, its text and its note; and last how many were left out.
-fn listed(alloc: Global, prepared: &Prepared) -> Result<String, Fail> {
+fn listed(rt: &impl Abort, alloc: Global, prepared: &Prepared) -> String {
     let mut out = String::new(alloc);
     let (origins, spans) = prepared.parts();
     for span in spans {
-        put_span(alloc, &mut out, origins, span)?;
+        put_span(rt, alloc, &mut out, origins, span);
     }
-    out.push_str(format!(in alloc; "{}", prepared.invalid())?.as_str())?;
-    Ok(out)
+    format!(in alloc; "{out}{}", prepared.invalid()).expect(rt, "memory")
 }
 
 /// A fault by its number.
-fn refused(alloc: Global, refusal: Refusal) -> Result<String, Fail> {
+fn refused(rt: &impl Abort, alloc: Global, refusal: Refusal) -> String {
     match refusal {
         Refusal::Bad(fault) => {
-            let number = fault.number().ok_or("no fault of a body")?;
-            Ok(format!(in alloc; "fault {number}")?)
+            let number = fault.number().expect(rt, "a fault of a body");
+            format!(in alloc; "fault {number}").expect(rt, "memory")
         }
-        Refusal::OutOfMemory => Ok(String::from_str(alloc, "out of memory")?),
+        Refusal::OutOfMemory => panic!(rt; "memory: OutOfMemory"),
     }
 }
 
 /// What preparing makes of a body in so many threads, `listed`, or `fault` and its number.
-pub fn preparing<R: Threads + Sync>(
+pub fn preparing<R: Threads + Abort + Sync>(
     rt: &R,
     alloc: Global,
     section: &Section,
     body: &[u8],
     parts: u32,
-) -> Result<String, Fail>
+) -> String
     requires { (0 < parts) × (parts ≤ 16) }
 {
-    let body = Bytes::copy_from_slice(alloc, body)?;
+    let body = Bytes::copy_from_slice(alloc, body).expect(rt, "memory");
     match prepare(rt, alloc, TENANT, section, body, parts) {
-        Ok(prepared) => listed(alloc, &prepared),
-        Err(refusal) => refused(alloc, refusal),
+        Ok(prepared) => listed(rt, alloc, &prepared),
+        Err(refusal) => refused(rt, alloc, refusal),
     }
 }

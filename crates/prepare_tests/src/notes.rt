@@ -5,7 +5,6 @@ ghost use Rattle.std.specs.Prelude.{◌≤◌, ◌<◌};
 use span_view::{SpanRef, is_text};
 use std::alloc::Global;
 use std::process::Abort;
-use std::test::Fail;
 use std::thread::Threads;
 use tail_notes::note_all;
 use tail_policy::{TenantPolicies, TraceNote};
@@ -47,18 +46,14 @@ fn five_notes() -> [TraceNote; 5] {
 }
 
 /// Whether so many parts make these notes of the five spans.
-fn are_five_noted<R: Threads + Abort + Sync>(
-    rt: &R,
-    alloc: Global,
-    parts: u32,
-) -> Result<bool, Fail>
+fn are_five_noted<R: Threads + Abort + Sync>(rt: &R, alloc: Global, parts: u32) -> bool
     requires { (0 < parts) × (parts ≤ 16) }
 {
-    let text = format!(in alloc; "[[tenant]]\nname = \"a\"\ntail_sampling.policy = {THREE}\n")?;
-    let settings = load(alloc, text.as_str())?;
-    let Some(section) = settings.section(0) else {
-        return Ok(false);
-    };
+    let text = format!(in alloc;
+        "[[tenant]]\nname = \"a\"\ntail_sampling.policy = {THREE}\n"
+    ).expect(rt, "memory");
+    let settings = load(alloc, text.as_str()).expect(rt, "good settings");
+    let section = settings.section(0).expect(rt, "a section");
     let policies = TenantPolicies::of(&section.tail_sampling.policies);
     let spans = [
         checked(rt, PLAIN, b""),
@@ -67,14 +62,13 @@ fn are_five_noted<R: Threads + Abort + Sync>(
         checked(rt, ERROR, b""),
         checked(rt, PLAIN, RESOURCE),
     ];
-    let notes = note_all(rt, alloc, &policies, &spans, parts)?;
-    Ok(notes.as_slice() == five_notes().as_slice())
+    let notes = note_all(rt, alloc, &policies, &spans, parts).expect(rt, "memory");
+    notes.as_slice() == five_notes().as_slice()
 }
 
 #[test]
-fn parts_make_the_notes_of_one_thread(rt: HostRuntime) -> Result<(), Fail> {
+fn parts_make_the_notes_of_one_thread(rt: HostRuntime) {
     for parts in [1u32, 2, 16] {
-        assert!(rt; are_five_noted(&rt, rt.alloc(), parts)?);
+        assert!(rt; are_five_noted(&rt, rt.alloc(), parts));
     }
-    Ok(())
 }

@@ -1,7 +1,7 @@
 //! Sections by their policies.
 
 use std::alloc::Global;
-use std::test::Fail;
+use std::process::Abort;
 use tail_settings::{Section, Settings, load};
 
 /// An attribute `a` whose value is the string `w`, traces of 5 ms or more, and traces with an error, which have an
@@ -20,10 +20,10 @@ fn first_section(settings: Settings) -> Option<Section> {
 }
 
 /// A section with these policies.
-pub fn section_of(alloc: Global, policies: &str) -> Result<Section, Fail> {
+pub fn section_of(rt: &impl Abort, alloc: Global, policies: &str) -> Section {
     let document = format!(in alloc;
         "tenant = [{{ name = \"a\", tail_sampling = {{ policy = [{policies}] }} }}]"
-    )?;
-    let settings = load(alloc, document.as_str())?;
-    Ok(first_section(settings).ok_or("no tenant")?)
+    ).expect(rt, "memory");
+    let settings = load(alloc, document.as_str()).expect(rt, "good settings");
+    first_section(settings).expect(rt, "a tenant")
 }

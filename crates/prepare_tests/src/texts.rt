@@ -1,19 +1,19 @@
 //! Lines of tables, and the bytes in them.
 
 use std::alloc::Global;
-use std::test::Fail;
+use std::process::Abort;
 
 /// A line's three words.
-pub fn words(line: &str) -> Option<(&str, &str, &str)> {
-    let (first, rest) = line.split_once(' ')?;
-    let (second, third) = rest.split_once(' ')?;
-    Some((first, second, third))
+pub fn words<'a>(rt: &impl Abort, line: &'a str) -> (&'a str, &'a str, &'a str) {
+    let (first, rest) = line.split_once(' ').expect(rt, "a line of three words");
+    let (second, third) = rest.split_once(' ').expect(rt, "a line of three words");
+    (first, second, third)
 }
 
 /// The bytes that these digits spell, none for `-`.
-pub fn bytes_of(alloc: Global, digits: &str) -> Result<Vec<u8>, Fail> {
+pub fn bytes_of(rt: &impl Abort, alloc: Global, digits: &str) -> Vec<u8> {
     if digits == "-" {
-        return Ok(Vec::new(alloc));
+        return Vec::new(alloc);
     }
-    Ok(hex::decode(alloc, digits)?)
+    hex::decode(alloc, digits).expect(rt, "hexadecimal digits")
 }
