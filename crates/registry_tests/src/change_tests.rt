@@ -3,8 +3,8 @@
 use crate::told::is_told;
 use http_edge::{MediaType, Reply};
 use service_runtime::Asked;
-use std::alloc::{AllocError, Global};
-use std::test::Fail;
+use std::alloc::Global;
+use std::process::Abort;
 use tenant_registry::changes::{added, retired};
 
 /// The document of a tenant.
@@ -114,15 +114,15 @@ const WENT: &str =
 \"back_end_rejected\":12,\"invalid\":13,\"over_budget\":14}";
 
 /// What comes of a question: in capitals that nothing was answered, and else the line that answers.
-fn asked(alloc: Global, what: &str) -> Result<Asked, AllocError> {
+fn asked(rt: &impl Abort, alloc: Global, what: &str) -> Asked {
     match what {
-        "LATE" => Ok(Asked::Late),
-        "ENDED" => Ok(Asked::Ended),
-        "BUSY" => Ok(Asked::Busy { going: None }),
-        "BUSY a" => Ok(Asked::Busy {
-            going: Some(String::from_str(alloc, "a")?),
-        }),
-        line => Ok(Asked::Told(Vec::from_slice(alloc, line.as_bytes())?)),
+        "LATE" => Asked::Late,
+        "ENDED" => Asked::Ended,
+        "BUSY" => Asked::Busy { going: None },
+        "BUSY a" => Asked::Busy {
+            going: Some(String::from_str(alloc, "a").expect(rt, "memory")),
+        },
+        line => Asked::Told(Vec::from_slice(alloc, line.as_bytes()).expect(rt, "memory")),
     }
 }
 
@@ -136,49 +136,37 @@ fn is_wanted(reply: &Reply, status: u16, content: &str) -> bool {
     is_told(reply, status, media, content)
 }
 
-/// Whether whoever posted the document is told this.
-fn is_told_of_coming(
+/// Whoever posted the document is told this.
+fn assert_told_of_coming(
+    rt: &impl Abort,
     alloc: Global,
     what: &str,
     document: &str,
     status: u16,
     content: &str,
-) -> Result<bool, AllocError> {
-    let asked = asked(alloc, what)?;
-    let reply = added(alloc, asked, document.as_bytes())?;
-    Ok(is_wanted(&reply, status, content))
+) {
+    let asked = asked(rt, alloc, what);
+    let reply = added(alloc, asked, document.as_bytes()).expect(rt, "memory");
+    assert!(rt; is_wanted(&reply, status, content), "{what}");
 }
 
 #[test]
-fn who_posts_a_document_is_told_what_came_of_it(rt: HostRuntime) -> Result<(), Fail> {
+fn who_posts_a_document_is_told_what_came_of_it(rt: HostRuntime) {
     for (what, document, status, content) in ADDED {
-        assert!(rt;
-            is_told_of_coming(rt.alloc(), what, document, status, content)?,
-            "{what}"
-        );
+        assert_told_of_coming(&rt, rt.alloc(), what, document, status, content);
     }
-    Ok(())
 }
 
-/// Whether whoever asked that the tenant `a` goes is told this.
-fn is_told_of_going(
-    alloc: Global,
-    what: &str,
-    status: u16,
-    content: &str,
-) -> Result<bool, AllocError> {
-    let asked = asked(alloc, what)?;
-    let reply = retired(alloc, asked, "a")?;
-    Ok(is_wanted(&reply, status, content))
+/// Whoever asked that the tenant `a` goes is told this.
+fn assert_told_of_going(rt: &impl Abort, alloc: Global, what: &str, status: u16, content: &str) {
+    let asked = asked(rt, alloc, what);
+    let reply = retired(alloc, asked, "a").expect(rt, "memory");
+    assert!(rt; is_wanted(&reply, status, content), "{what}");
 }
 
 #[test]
-fn who_deletes_a_tenant_is_told_what_came_of_it(rt: HostRuntime) -> Result<(), Fail> {
+fn who_deletes_a_tenant_is_told_what_came_of_it(rt: HostRuntime) {
     for (what, status, content) in RETIRED {
-        assert!(rt;
-            is_told_of_going(rt.alloc(), what, status, content)?,
-            "{what}"
-        );
+        assert_told_of_going(&rt, rt.alloc(), what, status, content);
     }
-    Ok(())
 }

@@ -4,7 +4,6 @@ use service_runtime::Documents;
 use std::alloc::Global;
 use std::io;
 use std::io::ErrorKind;
-use std::test::Fail;
 use tail_settings::SettingsFault;
 use tenant_registry::{NotAdded, document};
 
@@ -41,9 +40,9 @@ fn why_not(alloc: Global, path: &[u8]) -> Option<NotAdded> {
 
 /// Where a file can't be read, or has no text, what is told is that it has no document: 10 (docs/ADMIN.md).
 #[test]
-fn a_document_is_read_or_why_not_is_told(rt: HostRuntime) -> Result<(), Fail> {
+fn a_document_is_read_or_why_not_is_told(rt: HostRuntime) {
     let alloc = rt.alloc();
-    assert!(rt; has_text(alloc, "/shop é.toml", "tenant = []\n")?);
+    assert!(rt; has_text(alloc, "/shop é.toml", "tenant = []\n").expect(&rt, "a document"));
     let no_document = Some(NotAdded::Refused(10));
     assert!(rt;
         why_not(alloc, b"/bytes") == no_document
@@ -51,7 +50,6 @@ fn a_document_is_read_or_why_not_is_told(rt: HostRuntime) -> Result<(), Fail> {
             && why_not(alloc, b"/\xff") == no_document
             && why_not(alloc, b"/large") == Some(NotAdded::OutOfMemory)
     );
-    Ok(())
 }
 
 #[test]

@@ -13,10 +13,10 @@ use job_lane::Job;
 use otlp_front::RouteRefusal;
 use send_retry::Answer;
 use service_runtime::Signals;
-use std::alloc::{AllocError, Global};
+use std::alloc::Global;
 use std::marker::Brand;
+use std::process::Abort;
 use std::sync::{Mutex, Wait};
-use std::test::Fail;
 use tail_settings::{Settings, SettingsFault, load};
 use tenant_registry::{
     BackEnds, Change, ChangeList, Destination, InForce, Newcomer, Noted, Registrar, SettingsNaming,
@@ -49,14 +49,14 @@ enum Look {
 }
 
 /// Whether what is looked at is as it has to be.
-fn holds<R: Eprint + Wait>(rt: &R, alloc: Global, look: Look) -> Result<bool, Fail> {
-    let settings = load(alloc, A_AND_B)?;
-    let (list, own, other) = AgreedList::open(alloc)?;
-    Ok(holds_named::<Brand, R>(rt, alloc, settings, list, own, other, look)?)
+fn holds<R: Eprint + Wait + Abort>(rt: &R, alloc: Global, look: Look) -> bool {
+    let settings = load(alloc, A_AND_B).expect(rt, "good settings");
+    let (list, own, other) = AgreedList::open(alloc).expect(rt, "memory");
+    holds_named::<Brand, R>(rt, alloc, settings, list, own, other, look)
 }
 
 /// The same with a name for the settings and the list of their changes.
-fn holds_named<J: SettingsNaming, R: Eprint + Wait>(
+fn holds_named<J: SettingsNaming, R: Eprint + Wait + Abort>(
     rt: &R,
     alloc: Global,
     settings: Settings,
@@ -64,7 +64,7 @@ fn holds_named<J: SettingsNaming, R: Eprint + Wait>(
     own: Half<Change>,
     other: Half<Change>,
     look: Look,
-) -> Result<bool, AllocError>
+) -> bool
     requires first { settings_view settings ≡ J.first }
     requires list { list ≡ J.list }
     requires own { own ≡ half_of J.list [] }
@@ -75,21 +75,21 @@ fn holds_named<J: SettingsNaming, R: Eprint + Wait>(
     let mut registrar = Registrar::new(rt, &settings, &list, Noted::<J>::new(own));
     let told = are_changed(alloc, &mut registrar);
     let seen = look_at(rt, alloc, &settings, look);
-    Ok(told && seen?)
+    told && seen
 }
 
 /// Whether settings to which `c` has come and which `a` has left are as they have to be.
-fn look_at<J: SettingsNaming, R: Eprint + Wait>(
+fn look_at<J: SettingsNaming, R: Eprint + Wait + Abort>(
     rt: &R,
     alloc: Global,
     settings: &Mutex<InForce<J>>,
     look: Look,
-) -> Result<bool, AllocError> {
+) -> bool {
     match look {
-        Look::Tenants => are_b_and_c(alloc, &*settings.lock(rt)),
-        Look::Messages => are_routed(alloc, &*settings.lock(rt)),
+        Look::Tenants => are_b_and_c(rt, alloc, &*settings.lock(rt)),
+        Look::Messages => are_routed(rt, alloc, &*settings.lock(rt)),
         Look::BackEnds => are_addressed(rt, alloc, settings),
-        Look::Answers => Ok(are_passed_on(rt, alloc, settings)),
+        Look::Answers => are_passed_on(rt, alloc, settings),
     }
 }
 
@@ -123,16 +123,11 @@ fn is_taken(newcomer: &Result<Newcomer, SettingsFault>) -> bool {
 }
 
 /// Whether `b` and `c` are the tenants, by number, section and list.
-fn are_b_and_c<J: SettingsNaming>(
-    alloc: Global,
-    settings: &InForce<J>,
-) -> Result<bool, AllocError> {
-    Ok(
-        are_numbered(settings)
-            && most_spans(settings, 0)? == 0
-            && most_spans(settings, 2)? == 300
-            && are_listed(alloc, settings)?,
-    )
+fn are_b_and_c<J: SettingsNaming>(rt: &impl Abort, alloc: Global, settings: &InForce<J>) -> bool {
+    are_numbered(settings)
+        && most_spans(rt, settings, 0) == 0
+        && most_spans(rt, settings, 2) == 300
+        && are_listed(rt, alloc, settings)
 }
 
 /// Whether `b` and `c` have their numbers and longest waits, and `a` has none.
@@ -146,114 +141,99 @@ fn are_numbered<J: SettingsNaming>(settings: &InForce<J>) -> bool {
 }
 
 /// The `max_spans` of the tenant of this number, 0 where there is none.
-fn most_spans<J: SettingsNaming>(settings: &InForce<J>, tenant: u32) -> Result<u32, AllocError> {
-    match settings.section(tenant)? {
-        Some(section) => Ok(section.max_spans),
-        None => Ok(0),
+fn most_spans<J: SettingsNaming>(rt: &impl Abort, settings: &InForce<J>, tenant: u32) -> u32 {
+    match settings.section(tenant).expect(rt, "memory") {
+        Some(section) => section.max_spans,
+        None => 0,
     }
 }
 
 /// Whether the list of tenants has `b` and then `c`.
-fn are_listed<J: SettingsNaming>(alloc: Global, settings: &InForce<J>) -> Result<bool, AllocError> {
-    let tenants = settings.tenants(alloc)?;
-    Ok(match tenants.as_slice() {
+fn are_listed<J: SettingsNaming>(rt: &impl Abort, alloc: Global, settings: &InForce<J>) -> bool {
+    let tenants = settings.tenants(alloc).expect(rt, "memory");
+    match tenants.as_slice() {
         [b, c] => b.number == 1
             && b.name.as_str() == "b"
             && c.number == 2
             && c.name.as_str() == "c",
         _ => false,
-    })
+    }
 }
 
 #[test]
-fn tenants_come_and_leave_by_a_registrar(rt: HostRuntime) -> Result<(), Fail> {
-    assert!(rt; holds(&rt, rt.alloc(), Look::Tenants)?);
-    Ok(())
+fn tenants_come_and_leave_by_a_registrar(rt: HostRuntime) {
+    assert!(rt; holds(&rt, rt.alloc(), Look::Tenants));
 }
 
-fn field(alloc: Global, name: &str, value: &str) -> Result<Header, AllocError> {
-    Ok(Header {
-        name: name.as_bytes().to_vec(alloc)?,
-        value: value.as_bytes().to_vec(alloc)?,
-    })
+fn field(rt: &impl Abort, alloc: Global, name: &str, value: &str) -> Header {
+    Header {
+        name: name.as_bytes().to_vec(alloc).expect(rt, "memory"),
+        value: value.as_bytes().to_vec(alloc).expect(rt, "memory"),
+    }
 }
 
 /// A post of spans for the tenant of this name.
-fn post(alloc: Global, tenant: &str) -> Result<HttpMessage, AllocError> {
-    let mut headers = Vec::new(alloc);
-    for (name, value) in [
-        ("X-Scope-OrgID", tenant),
-        ("Content-Type", "application/x-protobuf"),
-    ] {
-        headers.push(field(alloc, name, value)?)?;
-    }
-    Ok(HttpMessage {
+fn post(rt: &impl Abort, alloc: Global, tenant: &str) -> HttpMessage {
+    let headers = [
+        field(rt, alloc, "X-Scope-OrgID", tenant),
+        field(rt, alloc, "Content-Type", "application/x-protobuf"),
+    ];
+    HttpMessage {
         method: Method::POST,
-        target: Vec::from_slice(alloc, b"/v1/traces")?,
-        headers,
+        target: Vec::from_slice(alloc, b"/v1/traces").expect(rt, "memory"),
+        headers: Vec::from_array(alloc, headers).expect(rt, "memory"),
         body: Vec::new(alloc),
-    })
-}
-
-/// Names of tenants, each with the number and the `max_spans` of the one that a post for that name goes to, if any.
-const ROUTES: [(&str, Option<(u32, u32)>); 3] = [
-    ("a", None),
-    ("b", Some((1, 200))),
-    ("c", Some((2, 300))),
-];
-
-/// Whether posts for `b` and `c` go to them, and one for `a` to nobody.
-fn are_routed<J: SettingsNaming>(alloc: Global, settings: &InForce<J>) -> Result<bool, AllocError> {
-    for (name, wanted) in ROUTES {
-        let message = post(alloc, name)?;
-        if !is_routed(settings, &message, wanted)? {
-            return Ok(false);
-        }
     }
-    Ok(true)
 }
 
-/// Whether a message goes to the tenant with this number and `max_spans`; or, where there is none, is refused for its
-/// tenant's name.
+/// Whether posts for `b` and `c` go to them, each with its `max_spans`, and one for `a` to nobody.
+fn are_routed<J: SettingsNaming>(rt: &impl Abort, alloc: Global, settings: &InForce<J>) -> bool {
+    is_routed(rt, alloc, settings, "a", None)
+        && is_routed(rt, alloc, settings, "b", Some((1, 200)))
+        && is_routed(rt, alloc, settings, "c", Some((2, 300)))
+}
+
+/// Whether a post for a tenant of this name goes to the one with this number and `max_spans`; or, where there is none,
+/// is refused for that name.
 fn is_routed<J: SettingsNaming>(
+    rt: &impl Abort,
+    alloc: Global,
     settings: &InForce<J>,
-    message: &HttpMessage,
+    name: &str,
     wanted: Option<(u32, u32)>,
-) -> Result<bool, AllocError> {
-    Ok(match settings.destination(message)? {
+) -> bool {
+    let message = post(rt, alloc, name);
+    match settings.destination(&message).expect(rt, "memory") {
         Destination::To { tenant, section } => wanted == Some((tenant, section.max_spans))
-            && settings.refusal(message).is_none(),
+            && settings.refusal(&message).is_none(),
         Destination::Nowhere(refusal) => wanted.is_none()
             && refusal == RouteRefusal::UnknownTenant
-            && settings.refusal(message) == Some(refusal),
-    })
+            && settings.refusal(&message) == Some(refusal),
+    }
 }
 
 #[test]
-fn messages_go_where_the_settings_in_force_say(rt: HostRuntime) -> Result<(), Fail> {
-    assert!(rt; holds(&rt, rt.alloc(), Look::Messages)?);
-    Ok(())
+fn messages_go_where_the_settings_in_force_say(rt: HostRuntime) {
+    assert!(rt; holds(&rt, rt.alloc(), Look::Messages));
 }
 
 /// Whether the back ends of `b` and `c` are told, and none of `a`, and each question is counted as a job taken.
-fn are_addressed<J: SettingsNaming, R: Wait>(
+fn are_addressed<J: SettingsNaming, R: Wait + Abort>(
     rt: &R,
     alloc: Global,
     settings: &Mutex<InForce<J>>,
-) -> Result<bool, AllocError> {
-    let signals = Signals::new(alloc, 1, 1, None)?;
+) -> bool {
+    let signals = Signals::new(alloc, 1, 1, None).expect(rt, "memory");
     let tally = signals.tally();
     let back_ends = BackEnds {
         rt,
         settings,
         tally,
     };
-    Ok(
-        is_at(&back_ends, 0, None)
-            && is_at(&back_ends, 1, Some("h:2"))
-            && is_at(&back_ends, 2, Some("h:3"))
-            && tally.counts().senders_busy == 3,
-    )
+    is_at(&back_ends, 0, None)
+        && is_at(&back_ends, 1, Some("h:2"))
+        && is_at(&back_ends, 2, Some("h:3"))
+        && tally.counts().senders_busy == 3
 }
 
 /// Whether this is told to be the address of the tenant with this number.
@@ -265,9 +245,8 @@ fn is_at<A: Addresses>(addresses: &A, tenant: u32, wanted: Option<&str>) -> bool
 }
 
 #[test]
-fn senders_are_told_the_back_ends_of_tenants_in_force(rt: HostRuntime) -> Result<(), Fail> {
-    assert!(rt; holds(&rt, rt.alloc(), Look::BackEnds)?);
-    Ok(())
+fn senders_are_told_the_back_ends_of_tenants_in_force(rt: HostRuntime) {
+    assert!(rt; holds(&rt, rt.alloc(), Look::BackEnds));
 }
 
 /// Answers each job with its ticket for a status, and counts the jobs.
@@ -327,7 +306,6 @@ fn is_passed_on<J: SettingsNaming, R: Eprint + Wait>(
 }
 
 #[test]
-fn a_job_is_posted_once_by_who_tells_of_answers(rt: HostRuntime) -> Result<(), Fail> {
-    assert!(rt; holds(&rt, rt.alloc(), Look::Answers)?);
-    Ok(())
+fn a_job_is_posted_once_by_who_tells_of_answers(rt: HostRuntime) {
+    assert!(rt; holds(&rt, rt.alloc(), Look::Answers));
 }
