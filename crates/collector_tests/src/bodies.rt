@@ -1,14 +1,14 @@
 //! What Protocol Buffers' own libraries make of the same bodies (tests/otlp).
 
 use crate::lines::ensure;
-use otlp_read::{read_request, read_response};
+use otlp_read::{ReadFault, read_request, read_response};
 use otlp_trace::{
     ExportTracePartialSuccess, ExportTraceServiceRequest, ExportTraceServiceResponse,
     write_request, write_response,
 };
 use otlp_vectors::{FAULTS, RESPONSES, VECTORS};
 use std::alloc::{AllocError, Global};
-use std::test::Fail;
+use std::process::Abort;
 
 /// A line's three words.
 fn words(line: &str) -> Option<(&str, &str, &str)> {
@@ -18,11 +18,11 @@ fn words(line: &str) -> Option<(&str, &str, &str)> {
 }
 
 /// The bytes that these digits spell, none for `-`.
-fn bytes(alloc: Global, digits: &str) -> Result<Vec<u8>, Fail> {
+fn bytes(rt: &impl Abort, alloc: Global, digits: &str) -> Vec<u8> {
     if digits == "-" {
-        return Ok(Vec::new(alloc));
+        return Vec::new(alloc);
     }
-    Ok(hex::decode(alloc, digits)?)
+    hex::decode(alloc, digits).expect(rt, "hexadecimal digits")
 }
 
 /// The digits of these bytes, `-` for none.
@@ -34,49 +34,60 @@ fn digits(alloc: Global, bytes: &[u8]) -> Result<String, AllocError> {
 }
 
 /// The digits of a request's canonical text.
-fn written(alloc: Global, request: &ExportTraceServiceRequest) -> Result<String, AllocError> {
+fn written(rt: &impl Abort, alloc: Global, request: &ExportTraceServiceRequest) -> String {
     let mut out = Vec::new(alloc);
-    write_request(alloc, &mut out, request)?;
-    digits(alloc, out.as_slice())
+    write_request(alloc, &mut out, request).expect(rt, "memory");
+    digits(alloc, out.as_slice()).expect(rt, "memory")
+}
+
+/// A fault's number as a text.
+fn number_of(rt: &impl Abort, alloc: Global, fault: ReadFault) -> String {
+    let Some(number) = fault.number() else {
+        panic!(rt; "memory: OutOfMemory");
+    };
+    format!(in alloc; "{number}").expect(rt, "memory")
 }
 
 /// The digits of the canonical text of what a body is read as, or of the fault's number.
-fn answer(alloc: Global, body: &[u8]) -> Result<String, Fail> {
+fn answer(rt: &impl Abort, alloc: Global, body: &[u8]) -> String {
     match read_request(alloc, body) {
-        Ok(request) => Ok(written(alloc, &request)?),
-        Err(fault) => Ok(format!(in alloc; "{}", fault.number().ok_or("out of memory")?)?),
+        Ok(request) => written(rt, alloc, &request),
+        Err(fault) => number_of(rt, alloc, fault),
     }
 }
 
 /// What a reply's body is read as.
-fn response(alloc: Global, body: &[u8]) -> Result<ExportTraceServiceResponse, Fail> {
-    let partial_success = match read_response(body)? {
+fn response(rt: &impl Abort, alloc: Global, body: &[u8]) -> ExportTraceServiceResponse {
+    let partial_success = match read_response(body).expect(rt, "a reply") {
         Some(partial) => Some(ExportTracePartialSuccess {
             rejected_spans: partial.rejected_spans,
-            error_message: String::from_str(alloc, partial.error_message)?,
+            error_message: String::from_str(alloc, partial.error_message).expect(rt, "memory"),
         }),
         None => None,
     };
-    Ok(ExportTraceServiceResponse { partial_success })
+    ExportTraceServiceResponse { partial_success }
 }
 
 /// The digits of the canonical text of what a reply's body is read as.
-fn reply(alloc: Global, body: &[u8]) -> Result<String, Fail> {
+fn reply(rt: &impl Abort, alloc: Global, body: &[u8]) -> String {
+    let response = response(rt, alloc, body);
     let mut out = Vec::new(alloc);
-    write_response(alloc, &mut out, &response(alloc, body)?)?;
-    Ok(digits(alloc, out.as_slice())?)
+    write_response(alloc, &mut out, &response).expect(rt, "memory");
+    digits(alloc, out.as_slice()).expect(rt, "memory")
 }
 
 /// Whether a request's body is read as its canonical text or a fault's number says.
-fn is_read(alloc: Global, body: &str, wanted: &str) -> Result<bool, Fail> {
-    let body = bytes(alloc, body)?;
-    Ok(answer(alloc, body.as_slice())?.as_str() == wanted)
+fn is_read(rt: &impl Abort, alloc: Global, body: &str, wanted: &str) -> bool {
+    let body = bytes(rt, alloc, body);
+    let answer = answer(rt, alloc, body.as_slice());
+    answer.as_str() == wanted
 }
 
 /// Whether a reply's body is read as its canonical text says.
-fn is_reply(alloc: Global, body: &str, wanted: &str) -> Result<bool, Fail> {
-    let body = bytes(alloc, body)?;
-    Ok(reply(alloc, body.as_slice())?.as_str() == wanted)
+fn is_reply(rt: &impl Abort, alloc: Global, body: &str, wanted: &str) -> bool {
+    let body = bytes(rt, alloc, body);
+    let reply = reply(rt, alloc, body.as_slice());
+    reply.as_str() == wanted
 }
 
 /// A table of bodies, a line each, of three words.
@@ -91,31 +102,28 @@ enum Table {
 }
 
 /// Whether the line's body is read as the line says.
-fn is_right(alloc: Global, table: Table, line: &str) -> Result<bool, Fail> {
+fn is_right(rt: &impl Abort, alloc: Global, table: Table, line: &str) -> bool {
     let Some((_, second, third)) = words(line) else {
-        return Ok(false);
+        return false;
     };
     match table {
-        Table::Requests => is_read(alloc, second, third),
-        Table::Faults => is_read(alloc, third, second),
-        Table::Replies => is_reply(alloc, second, third),
+        Table::Requests => is_read(rt, alloc, second, third),
+        Table::Faults => is_read(rt, alloc, third, second),
+        Table::Replies => is_reply(rt, alloc, second, third),
     }
 }
 
 /// A table has so many lines, and the body of each is read as the line says.
-fn bodies_are_read(alloc: Global, table: Table, text: &str, lines: usize) -> Result<(), Fail> {
+fn bodies_are_read(rt: &impl Abort, alloc: Global, table: Table, text: &str, lines: usize) {
     for line in text.lines() {
-        ensure(is_right(alloc, table, line)?, line)?;
+        ensure(rt, is_right(rt, alloc, table, line), line);
     }
-    ensure(
-        text.lines().count() == lines,
-        "there are more lines or fewer",
-    )
+    assert_eq!(rt; text.lines().count(), lines);
 }
 
 #[test]
-fn bodies_are_read_as_their_lines_say(rt: HostRuntime) -> Result<(), Fail> {
-    bodies_are_read(rt.alloc(), Table::Requests, VECTORS, 195)?;
-    bodies_are_read(rt.alloc(), Table::Faults, FAULTS, 80)?;
-    bodies_are_read(rt.alloc(), Table::Replies, RESPONSES, 11)
+fn bodies_are_read_as_their_lines_say(rt: HostRuntime) {
+    bodies_are_read(&rt, rt.alloc(), Table::Requests, VECTORS, 195);
+    bodies_are_read(&rt, rt.alloc(), Table::Faults, FAULTS, 80);
+    bodies_are_read(&rt, rt.alloc(), Table::Replies, RESPONSES, 11);
 }

@@ -8,7 +8,7 @@ use replay_script::{
     put_worked,
 };
 use std::alloc::{AllocError, Global};
-use std::test::Fail;
+use std::process::Abort;
 use std::thread::Threads;
 use tail_settings::Settings;
 use tenant_shard::{Outcome, Step};
@@ -105,95 +105,97 @@ fn name_of(tenant: u32) -> &'static str {
 }
 
 /// The post of a body to the tenant of the name's first letter, prepared for the policies of the one of its last.
-fn post_of<R: Threads + Sync>(
+fn post_of<R: Threads + Abort + Sync>(
     rt: &R,
     alloc: Global,
     settings: &Settings,
     name: &str,
     now: u64,
     body: Vec<u8>,
-) -> Result<Step, Fail> {
+) -> Step {
     let tenant = number_of(name.as_bytes().first());
     let own = number_of(name.as_bytes().last());
-    let section = settings.section(own).ok_or("no such section")?;
-    let prepared = prepare(rt, alloc, tenant, section, Bytes::from_vec(body)?, 2)?;
-    Ok(Step::Post { now, prepared })
+    let section = settings.section(own).expect(rt, "a section");
+    let body = Bytes::from_vec(body).expect(rt, "memory");
+    let prepared = prepare(rt, alloc, tenant, section, body, 2).expect(rt, "a good body");
+    Step::Post { now, prepared }
 }
 
 /// The coming of the tenant of the document's first letter, with the section of the one of its last.
-fn added(settings: &Settings, document: &[u8]) -> Result<Step, Fail> {
+fn added(rt: &impl Abort, settings: &Settings, document: &[u8]) -> Step {
     let tenant = number_of(document.first());
     let own = number_of(document.last());
-    let section = settings.section(own).ok_or("no such section")?.copy()?;
-    Ok(Step::Add { tenant, section })
+    let section = settings.section(own).expect(rt, "a section");
+    let section = section.copy().expect(rt, "memory");
+    Step::Add { tenant, section }
 }
 
 /// The step that a command asks for.
-fn asked<R: Threads + Sync>(
+fn asked<R: Threads + Abort + Sync>(
     rt: &R,
     alloc: Global,
     settings: &Settings,
     command: Command<'_>,
-) -> Result<Step, Fail> {
+) -> Step {
     match command {
         Command::Post { name, moment, body } => post_of(rt, alloc, settings, name, moment, body),
-        Command::Turn { moment, .. } => Ok(Step::Turn { now: moment }),
+        Command::Turn { moment, .. } => Step::Turn { now: moment },
         Command::Answer {
             name,
             moment,
             ticket,
             word,
             answer,
-        } => Ok(Step::Answer {
+        } => Step::Answer {
             tenant: number_of(name.as_bytes().first()),
             now: moment,
             ticket,
             word,
             answer,
-        }),
-        Command::Report { name, moment } => Ok(Step::Report {
+        },
+        Command::Report { name, moment } => Step::Report {
             tenant: number_of(name.as_bytes().first()),
             now: moment,
-        }),
-        Command::Drain { name, moment } => Ok(Step::Drain {
+        },
+        Command::Drain { name, moment } => Step::Drain {
             tenant: number_of(name.as_bytes().first()),
             now: moment,
-        }),
-        Command::Add { document } => added(settings, document.as_slice()),
-        Command::Retire { name, moment } => Ok(Step::Retire {
+        },
+        Command::Add { document } => added(rt, settings, document.as_slice()),
+        Command::Retire { name, moment } => Step::Retire {
             tenant: number_of(name.as_bytes().first()),
             now: moment,
-        }),
+        },
     }
 }
 
 /// The step of a line.
-pub fn step_of<R: Threads + Sync>(
+pub fn step_of<R: Threads + Abort + Sync>(
     rt: &R,
     alloc: Global,
     settings: &Settings,
     line: &str,
-) -> Result<Step, Fail> {
-    let line = spelled(alloc, line, "")?;
-    match parse_line(alloc, line.as_bytes())? {
-        Some(command) => asked(rt, alloc, settings, command),
-        None => Err(Fail::new("no command")),
-    }
+) -> Step {
+    let line = spelled(alloc, line, "").expect(rt, "memory");
+    let found = parse_line(alloc, line.as_bytes()).expect(rt, "memory");
+    let command = found.expect(rt, "a command");
+    asked(rt, alloc, settings, command)
 }
 
 /// The steps of a story.
-pub fn steps_of<R: Threads + Sync>(
+pub fn steps_of<R: Threads + Abort + Sync>(
     rt: &R,
     alloc: Global,
     settings: &Settings,
     story: &str,
-) -> Result<Vec<Step>, Fail> {
+) -> Vec<Step> {
     let mut steps = Vec::new(alloc);
     for line in story.lines() {
         let (step, _) = parts_of(line);
-        steps.push(step_of(rt, alloc, settings, step)?)?;
+        let step = step_of(rt, alloc, settings, step);
+        steps.push(step).expect(rt, "memory");
     }
-    Ok(steps)
+    steps
 }
 
 /// Appends the line of an outcome.
@@ -228,49 +230,50 @@ pub fn put_all(alloc: Global, out: &mut Vec<u8>, outcomes: &[Outcome]) -> Result
 }
 
 /// Whether this line tells the outcome.
-pub fn is_told(alloc: Global, outcome: &Outcome, line: &str) -> Result<bool, AllocError> {
+pub fn is_told(rt: &impl Abort, alloc: Global, outcome: &Outcome, line: &str) -> bool {
     let mut out = Vec::new(alloc);
-    put(alloc, &mut out, outcome)?;
-    Ok(out.as_slice() == spelled(alloc, line, "\n")?.as_bytes())
+    put(alloc, &mut out, outcome).expect(rt, "memory");
+    let wanted = spelled(alloc, line, "\n").expect(rt, "memory");
+    out.as_slice() == wanted.as_bytes()
 }
 
 /// The lines that answer a story's commands.
-pub fn answers_of(alloc: Global, story: &str) -> Result<String, AllocError> {
+pub fn answers_of(rt: &impl Abort, alloc: Global, story: &str) -> String {
     let mut text = String::new(alloc);
     for line in story.lines() {
         let (_, answer) = parts_of(line);
-        text.push_str(spelled(alloc, answer, "\n")?.as_str())?;
+        let answer = spelled(alloc, answer, "\n").expect(rt, "memory");
+        text.push_str(answer.as_str()).expect(rt, "memory");
     }
-    Ok(text)
+    text
 }
 
-/// No error where this holds, and else the line as the error.
-pub fn ensure(holds: bool, line: &str) -> Result<(), Fail> {
-    if holds { Ok(()) } else { Err(Fail::new(line)) }
+/// Ends the test with the line where this doesn't hold.
+pub fn ensure(rt: &impl Abort, holds: bool, line: &str) {
+    assert!(rt; holds, "{line}");
 }
 
-/// The step of a line gives what the line says. Else the line is the error.
-pub fn line_is_told<R: Threads + Sync>(
+/// The step of a line gives what the line says. Else the test ends with the line.
+pub fn line_is_told<R: Threads + Abort + Sync>(
     rt: &R,
     alloc: Global,
     fixture: &mut Fixture,
     line: &str,
-) -> Result<(), Fail> {
+) {
     let (step, wanted) = parts_of(line);
-    let step = step_of(rt, alloc, &fixture.settings, step)?;
-    let outcome = fixture.shard.step(&step)?;
-    ensure(is_told(alloc, &outcome, wanted)?, line)
+    let step = step_of(rt, alloc, &fixture.settings, step);
+    let outcome = fixture.shard.step(&step).expect(rt, "memory");
+    ensure(rt, is_told(rt, alloc, &outcome, wanted), line);
 }
 
 /// The same of each line of a story.
-pub fn lines_are_told<R: Threads + Sync>(
+pub fn lines_are_told<R: Threads + Abort + Sync>(
     rt: &R,
     alloc: Global,
     fixture: &mut Fixture,
     story: &str,
-) -> Result<(), Fail> {
+) {
     for line in story.lines() {
-        line_is_told(rt, alloc, fixture, line)?;
+        line_is_told(rt, alloc, fixture, line);
     }
-    Ok(())
 }

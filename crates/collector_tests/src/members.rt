@@ -3,8 +3,8 @@
 
 use crate::lines::{ensure, line_is_told, lines_are_told};
 use crate::sections::{BASE, ERRORS, Fixture, settings_of, shard_of};
-use std::alloc::{AllocError, Global};
-use std::test::Fail;
+use std::alloc::Global;
+use std::process::Abort;
 use std::thread::Threads;
 use tail_settings::Settings;
 use tenant_shard::{Shard, members_of};
@@ -65,24 +65,24 @@ add 6161 = refused a 25";
 const BOTH: &[u32] = &[1, 0, 7, 0];
 
 /// A new shard with these members, of two tenants of which the first has this table, is told the story.
-fn story_is_told<R: Threads + Sync>(
+fn story_is_told<R: Threads + Abort + Sync>(
     rt: &R,
     alloc: Global,
     table: &str,
     members: &[u32],
     story: &str,
-) -> Result<(), Fail> {
-    let mut fixture = shard_of(alloc, &[table, BASE], members)?;
-    lines_are_told(rt, alloc, &mut fixture, story)
+) {
+    let mut fixture = shard_of(rt, alloc, &[table, BASE], members);
+    lines_are_told(rt, alloc, &mut fixture, story);
 }
 
 #[test]
-fn members_are_told_their_own(rt: HostRuntime) -> Result<(), Fail> {
+fn members_are_told_their_own(rt: HostRuntime) {
     let alloc = rt.alloc();
-    story_is_told(&rt, alloc, ERRORS, BOTH, REFUSED)?;
-    story_is_told(&rt, alloc, BASE, BOTH, EQUAL)?;
-    story_is_told(&rt, alloc, ERRORS, BOTH, COMING)?;
-    story_is_told(&rt, alloc, ERRORS, &[1], STRANGER)
+    story_is_told(&rt, alloc, ERRORS, BOTH, REFUSED);
+    story_is_told(&rt, alloc, BASE, BOTH, EQUAL);
+    story_is_told(&rt, alloc, ERRORS, BOTH, COMING);
+    story_is_told(&rt, alloc, ERRORS, &[1], STRANGER);
 }
 
 /// What a member alone waits for after each step: whether it is empty, and the second tenant, which is no member, when
@@ -144,72 +144,68 @@ fn is_waiting(shard: &Shard, tenant: u32, holds: &str, ready: &str, shard_ready:
 }
 
 /// The step of a line gives what the line says, and leaves the first two tenants and the shard waiting for what its
-/// columns say. Else the line is the error.
-fn line_is_left<R: Threads + Sync>(
+/// columns say. Else the test ends with the line.
+fn line_is_left<R: Threads + Abort + Sync>(
     rt: &R,
     alloc: Global,
     fixture: &mut Fixture,
     line: &str,
-) -> Result<(), Fail> {
+) {
     let (first, rest) = column_of(line);
     let (second, rest) = column_of(rest);
     let (first_ready, rest) = column_of(rest);
     let (second_ready, rest) = column_of(rest);
     let (ready, step) = column_of(rest);
-    line_is_told(rt, alloc, fixture, step)?;
+    line_is_told(rt, alloc, fixture, step);
     let is_left = is_waiting(&fixture.shard, 0, first, first_ready, ready)
         && is_waiting(&fixture.shard, 1, second, second_ready, ready);
-    ensure(is_left, line)
+    ensure(rt, is_left, line);
 }
 
 /// A new shard waits for nothing and holds no span of the first tenant, and each line leaves it as its columns say.
-fn lines_are_left<R: Threads + Sync>(
+fn lines_are_left<R: Threads + Abort + Sync>(
     rt: &R,
     alloc: Global,
     fixture: &mut Fixture,
     lines: &str,
-) -> Result<(), Fail> {
+) {
     let is_idle = is_waiting(&fixture.shard, 0, "empty", "-", "-");
-    ensure(is_idle, "a new shard waits")?;
+    ensure(rt, is_idle, "a new shard waits");
     for line in lines.lines() {
-        line_is_left(rt, alloc, fixture, line)?;
+        line_is_left(rt, alloc, fixture, line);
     }
-    Ok(())
 }
 
 /// The same of a shard with these members, of two tenants.
-fn story_is_left<R: Threads + Sync>(
-    rt: &R,
-    alloc: Global,
-    members: &[u32],
-    lines: &str,
-) -> Result<(), Fail> {
-    let mut fixture = shard_of(alloc, &[BASE, ERRORS], members)?;
-    lines_are_left(rt, alloc, &mut fixture, lines)
+fn story_is_left<R: Threads + Abort + Sync>(rt: &R, alloc: Global, members: &[u32], lines: &str) {
+    let mut fixture = shard_of(rt, alloc, &[BASE, ERRORS], members);
+    lines_are_left(rt, alloc, &mut fixture, lines);
 }
 
 fn has_members(
+    rt: &impl Abort,
     alloc: Global,
     settings: &Settings,
     shard: u32,
     members: &[u32],
-) -> Result<bool, AllocError> {
-    Ok(members_of(alloc, settings, shard)?.as_slice() == members)
+) -> bool {
+    let found = members_of(alloc, settings, shard).expect(rt, "memory");
+    found.as_slice() == members
 }
 
 /// Whether both tenants are in the only shard.
-fn are_in_one_shard(alloc: Global) -> Result<bool, Fail> {
-    let settings = settings_of(alloc, &[BASE, ERRORS])?;
-    Ok(has_members(alloc, &settings, 0, &[0, 1])? && has_members(alloc, &settings, 1, &[])?)
+fn are_in_one_shard(rt: &impl Abort, alloc: Global) -> bool {
+    let settings = settings_of(rt, alloc, &[BASE, ERRORS]);
+    has_members(rt, alloc, &settings, 0, &[0, 1]) && has_members(rt, alloc, &settings, 1, &[])
 }
 
 #[test]
-fn a_member_is_empty_once_its_batches_are_answered(rt: HostRuntime) -> Result<(), Fail> {
-    assert!(rt; are_in_one_shard(rt.alloc())?);
-    story_is_left(&rt, rt.alloc(), &[0], HELD)
+fn a_member_is_empty_once_its_batches_are_answered(rt: HostRuntime) {
+    assert!(rt; are_in_one_shard(&rt, rt.alloc()));
+    story_is_left(&rt, rt.alloc(), &[0], HELD);
 }
 
 #[test]
-fn a_shard_waits_for_the_first_of_its_members(rt: HostRuntime) -> Result<(), Fail> {
-    story_is_left(&rt, rt.alloc(), &[1, 0], BOTH_WAIT)
+fn a_shard_waits_for_the_first_of_its_members(rt: HostRuntime) {
+    story_is_left(&rt, rt.alloc(), &[1, 0], BOTH_WAIT);
 }

@@ -1,10 +1,10 @@
 //! Readers and writers that do little a call, are interrupted or fail, and a session that has no memory.
 
 use replay_script::{AnswerFault, Command, ScriptFault, Session, put_idle, run_script};
-use std::alloc::{AllocError, Global};
+use std::alloc::Global;
 use std::io;
 use std::io::{BufReader, Read, Write};
-use std::test::Fail;
+use std::process::Abort;
 use std::thread::Threads;
 use trace_collector::{ReplayFault, replay};
 
@@ -102,7 +102,7 @@ impl Write for Sips {
 
 /// Whether a script that comes through a buffer of so many bytes ends so, with this text written, of which the writer
 /// takes so many bytes at most.
-fn runs<R: Threads + Sync>(
+fn runs<R: Threads + Abort + Sync>(
     rt: &R,
     alloc: Global,
     capacity: usize,
@@ -110,9 +110,9 @@ fn runs<R: Threads + Sync>(
     most: usize,
     end: Result<(), ScriptFault>,
     text: &[u8],
-) -> Result<bool, AllocError> {
+) -> bool {
     let Ok(mut reader) = BufReader::with_capacity(alloc, capacity, drips) else {
-        return Err(AllocError);
+        panic!(rt; "memory: OutOfMemory");
     };
     let mut writer = Sips {
         taken: Vec::new(alloc),
@@ -121,53 +121,46 @@ fn runs<R: Threads + Sync>(
     };
     let mut turns = Turns { left: 10_000 };
     let told = run_script(rt, alloc, &mut turns, &mut reader, &mut writer);
-    Ok(told == end && writer.taken.as_slice() == text)
+    told == end && writer.taken.as_slice() == text
 }
 
 /// So many turns, one a line behind this word.
-fn lines_of_turns(alloc: Global, word: &str) -> Result<String, AllocError> {
+fn lines_of_turns(rt: &impl Abort, alloc: Global, word: &str) -> String {
     let mut text = String::new(alloc);
     for turn in 100_000..110_000u32 {
-        text.push_str(format!(in alloc; "{word} {turn}\n")?.as_str())?;
+        let line = format!(in alloc; "{word} {turn}\n").expect(rt, "memory");
+        text.push_str(line.as_str()).expect(rt, "memory");
     }
-    Ok(text)
+    text
 }
 
 /// Whether a script and its answers come through a buffer of so many bytes, a byte a call.
-fn comes_through<R: Threads + Sync>(
+fn comes_through<R: Threads + Abort + Sync>(
     rt: &R,
     alloc: Global,
     capacity: usize,
     script: &[u8],
     answers: &[u8],
-) -> Result<bool, AllocError> {
+) -> bool {
     let drips = dripping(script, 1, false);
     runs(rt, alloc, capacity, drips, 120_000, Ok(()), answers)
 }
 
 /// Whether many turns and their answers come through a small buffer and a large one.
-fn turns_come_through<R: Threads + Sync>(rt: &R, alloc: Global) -> Result<bool, AllocError> {
-    let script = lines_of_turns(alloc, "turn 0")?;
-    let answers = lines_of_turns(alloc, "idle")?;
+fn turns_come_through<R: Threads + Abort + Sync>(rt: &R, alloc: Global) -> bool {
+    let script = lines_of_turns(rt, alloc, "turn 0");
+    let answers = lines_of_turns(rt, alloc, "idle");
     let (script, answers) = (script.as_bytes(), answers.as_bytes());
-    Ok(
-        comes_through(rt, alloc, 1, script, answers) == Ok(true)
-            && comes_through(rt, alloc, 8192, script, answers) == Ok(true),
-    )
+    comes_through(rt, alloc, 1, script, answers) && comes_through(rt, alloc, 8192, script, answers)
 }
 
 #[test]
-fn a_byte_a_call_and_every_second_call_interrupted(rt: HostRuntime) -> Result<(), Fail> {
-    assert!(rt; turns_come_through(&rt, rt.alloc())?);
-    Ok(())
+fn a_byte_a_call_and_every_second_call_interrupted(rt: HostRuntime) {
+    assert!(rt; turns_come_through(&rt, rt.alloc()));
 }
 
 /// Whether a script that comes so many bytes a call is answered up to its last line, in which the reader fails.
-fn comes_in_pieces<R: Threads + Sync>(
-    rt: &R,
-    alloc: Global,
-    most: usize,
-) -> Result<bool, AllocError> {
+fn comes_in_pieces<R: Threads + Abort + Sync>(rt: &R, alloc: Global, most: usize) -> bool {
     let drips = dripping(b"# six\nturn 0 1\n\nturn 0 2\nturn 0 3", most, true);
     let end = Err(ScriptFault::Line);
     runs(rt, alloc, 5, drips, 100, end, b"idle 1\nidle 2\n")
@@ -177,10 +170,10 @@ fn comes_in_pieces<R: Threads + Sync>(
 fn lines_are_the_same_in_any_pieces(rt: HostRuntime) {
     let alloc = rt.alloc();
     assert!(rt;
-        comes_in_pieces(&rt, alloc, 1) == Ok(true)
-            && comes_in_pieces(&rt, alloc, 2) == Ok(true)
-            && comes_in_pieces(&rt, alloc, 3) == Ok(true)
-            && comes_in_pieces(&rt, alloc, 7) == Ok(true)
+        comes_in_pieces(&rt, alloc, 1)
+            && comes_in_pieces(&rt, alloc, 2)
+            && comes_in_pieces(&rt, alloc, 3)
+            && comes_in_pieces(&rt, alloc, 7)
     );
 }
 
@@ -193,7 +186,7 @@ fn a_writer_that_fails_ends_the_run(rt: HostRuntime) {
     let few = runs(&rt, alloc, 100, drips, 9, end, b"idle 1\nid");
     let drips = dripping(script, 100, false);
     let all = runs(&rt, alloc, 100, drips, 14, Ok(()), b"idle 1\nidle 2\n");
-    assert!(rt; few == Ok(true) && all == Ok(true));
+    assert!(rt; few && all);
 }
 
 #[test]
@@ -215,15 +208,18 @@ tail_sampling = { policy = [{ type = \"always_sample\" }] }
 ";
 
 /// Whether a replay ends in these words, none where all is done.
-fn ends_in(alloc: Global, end: Result<(), ReplayFault>, words: &str) -> Result<bool, AllocError> {
+fn ends_in(rt: &impl Abort, alloc: Global, end: Result<(), ReplayFault>, words: &str) -> bool {
     match end {
-        Ok(()) => Ok(words.is_empty()),
-        Err(fault) => Ok(fault.to_string(alloc)?.as_str() == words),
+        Ok(()) => words.is_empty(),
+        Err(fault) => {
+            let told = fault.to_string(alloc).expect(rt, "memory");
+            told.as_str() == words
+        }
     }
 }
 
 /// Whether a replay under these settings ends so, with this text written, of which the writer takes so many bytes.
-fn replays<R: Threads + Sync>(
+fn replays<R: Threads + Abort + Sync>(
     rt: &R,
     alloc: Global,
     settings: &str,
@@ -231,9 +227,9 @@ fn replays<R: Threads + Sync>(
     most: usize,
     end: &str,
     text: &[u8],
-) -> Result<bool, AllocError> {
+) -> bool {
     let Ok(mut reader) = BufReader::new(alloc, drips) else {
-        return Err(AllocError);
+        panic!(rt; "memory: OutOfMemory");
     };
     let mut writer = Sips {
         taken: Vec::new(alloc),
@@ -241,12 +237,12 @@ fn replays<R: Threads + Sync>(
         is_next: false,
     };
     let told = replay(rt, alloc, settings, &mut reader, &mut writer);
-    Ok(ends_in(alloc, told, end)? && writer.taken.as_slice() == text)
+    ends_in(rt, alloc, told, end) && writer.taken.as_slice() == text
 }
 
 /// Whether a replay that is done ends so, and those whose reader fails in the last line, whose writer fails, and whose
 /// third line is no command.
-fn scripts_end<R: Threads + Sync>(rt: &R, alloc: Global) -> bool {
+fn scripts_end<R: Threads + Abort + Sync>(rt: &R, alloc: Global) -> bool {
     let answers = b"idle 0\nidle 0\n".as_slice();
     let fault = "input or output fault";
     let drips = dripping(b"turn 0 1\nturn 0 2", 1, false);
@@ -258,7 +254,7 @@ fn scripts_end<R: Threads + Sync>(rt: &R, alloc: Global) -> bool {
     let drips = dripping(b"turn 0 1\nturn 0 2\nno command\n", 1, false);
     let fault = "script fault at line 3";
     let faulty = replays(rt, alloc, SETTINGS, drips, 14, fault, answers);
-    done == Ok(true) && unread == Ok(true) && unwritten == Ok(true) && faulty == Ok(true)
+    done && unread && unwritten && faulty
 }
 
 /// Also one whose settings are faulty, and one that has no memory.
@@ -267,6 +263,6 @@ fn replays_end_in_their_words(rt: HostRuntime) {
     let alloc = rt.alloc();
     let drips = dripping(b"no command\n", 1, false);
     let faulty = replays(&rt, alloc, "name =", drips, 100, "settings fault 10", b"");
-    let refused = ends_in(alloc, Err(ReplayFault::OutOfMemory), "out of memory");
-    assert!(rt; scripts_end(&rt, alloc) && faulty == Ok(true) && refused == Ok(true));
+    let refused = ends_in(&rt, alloc, Err(ReplayFault::OutOfMemory), "out of memory");
+    assert!(rt; scripts_end(&rt, alloc) && faulty && refused);
 }

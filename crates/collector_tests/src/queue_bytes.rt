@@ -4,7 +4,7 @@
 use crate::lines::lines_are_told;
 use crate::sections::{BASE, opened, settings_of};
 use std::alloc::Global;
-use std::test::Fail;
+use std::process::Abort;
 use std::thread::Threads;
 
 /// A batch of one span has 34 bytes, and one of two has 64. Of 68 bytes two of one span may wait, and no third, each
@@ -82,21 +82,16 @@ exported=4 not_sampled=0 too_early=0 queue_full=1 \
 retry_exhausted=0 back_end_refused=0 back_end_rejected=0 invalid=0 over_budget=0";
 
 /// A shard of two tenants whose queues hold so many bytes each is told the story.
-fn story_is_told<R: Threads + Sync>(
-    rt: &R,
-    alloc: Global,
-    bytes: u64,
-    story: &str,
-) -> Result<(), Fail> {
-    let mut settings = settings_of(alloc, &[BASE, BASE])?;
+fn story_is_told<R: Threads + Abort + Sync>(rt: &R, alloc: Global, bytes: u64, story: &str) {
+    let mut settings = settings_of(rt, alloc, &[BASE, BASE]);
     settings.bound_queues(bytes);
-    let mut fixture = opened(alloc, settings, &[0, 1])?;
-    lines_are_told(rt, alloc, &mut fixture, story)
+    let mut fixture = opened(rt, alloc, settings, &[0, 1]);
+    lines_are_told(rt, alloc, &mut fixture, story);
 }
 
 #[test]
-fn batches_that_wait_have_so_many_bytes_at_most(rt: HostRuntime) -> Result<(), Fail> {
-    story_is_told(&rt, rt.alloc(), 68, TWO_WAIT)?;
-    story_is_told(&rt, rt.alloc(), 67, ONE_WAITS)?;
-    story_is_told(&rt, rt.alloc(), 68, DRAINED)
+fn batches_that_wait_have_so_many_bytes_at_most(rt: HostRuntime) {
+    story_is_told(&rt, rt.alloc(), 68, TWO_WAIT);
+    story_is_told(&rt, rt.alloc(), 67, ONE_WAITS);
+    story_is_told(&rt, rt.alloc(), 68, DRAINED);
 }

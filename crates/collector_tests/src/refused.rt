@@ -8,6 +8,7 @@ use crate::sections::{
     TWO_SAMPLED, shard_of,
 };
 use std::alloc::{AllocError, Global};
+use std::process::Abort;
 use std::test::Fail;
 use std::thread::Threads;
 use tenant_shard::{Outcome, Shard, Step, Stopped};
@@ -152,27 +153,28 @@ fn given_at_last(shard: &mut Shard, step: &Step) -> Result<Outcome, Fail> {
     }
 }
 
-/// The step of a line gives what the line says. Else the line is the error.
-fn line_is_given<R: Threads + Sync>(
+/// The step of a line gives what the line says. Else the test ends with the line.
+fn line_is_given<R: Threads + Abort + Sync>(
     rt: &R,
     alloc: Global,
     fixture: &mut Fixture,
     line: &str,
 ) -> Result<(), Fail> {
     let (step, wanted) = parts_of(line);
-    let step = step_of(rt, alloc, &fixture.settings, step)?;
+    let step = step_of(rt, alloc, &fixture.settings, step);
     let outcome = given_at_last(&mut fixture.shard, &step)?;
-    ensure(is_told(alloc, &outcome, wanted)?, line)
+    ensure(rt, is_told(rt, alloc, &outcome, wanted), line);
+    Ok(())
 }
 
 /// The same of each line of a story, of three tenants with these tables.
-fn each_is_given<R: Threads + Sync>(
+fn each_is_given<R: Threads + Abort + Sync>(
     rt: &R,
     alloc: Global,
     tables: &[&str],
     story: &str,
 ) -> Result<(), Fail> {
-    let mut fixture = shard_of(alloc, tables, &[0, 1, 2])?;
+    let mut fixture = shard_of(rt, alloc, tables, &[0, 1, 2]);
     for line in story.lines() {
         line_is_given(rt, alloc, &mut fixture, line)?;
     }
@@ -215,26 +217,21 @@ fn told_at_last(alloc: Global, shard: &mut Shard, steps: &[Step]) -> Result<Vec<
 }
 
 /// Whether a run of the steps of a story tells at last what answers them.
-fn goes_on(
-    alloc: Global,
-    shard: &mut Shard,
-    steps: &[Step],
-    story: &str,
-) -> Result<bool, AllocError> {
-    let told = told_at_last(alloc, shard, steps)?;
-    Ok(told.as_slice() == answers_of(alloc, story)?.as_bytes())
+fn goes_on(rt: &impl Abort, alloc: Global, shard: &mut Shard, steps: &[Step], story: &str) -> bool {
+    let told = told_at_last(alloc, shard, steps).expect(rt, "memory");
+    let answers = answers_of(rt, alloc, story);
+    told.as_slice() == answers.as_bytes()
 }
 
-fn story_goes_on<R: Threads + Sync>(rt: &R, alloc: Global) -> Result<bool, Fail> {
-    let mut fixture = shard_of(alloc, &TABLES, &[0, 1, 2])?;
-    let steps = steps_of(rt, alloc, &fixture.settings, STORY)?;
-    Ok(goes_on(alloc, &mut fixture.shard, steps.as_slice(), STORY)?)
+fn story_goes_on<R: Threads + Abort + Sync>(rt: &R, alloc: Global) -> bool {
+    let mut fixture = shard_of(rt, alloc, &TABLES, &[0, 1, 2]);
+    let steps = steps_of(rt, alloc, &fixture.settings, STORY);
+    goes_on(rt, alloc, &mut fixture.shard, steps.as_slice(), STORY)
 }
 
 #[test]
-fn a_run_goes_on_where_it_stopped(rt: HostRuntime) -> Result<(), Fail> {
-    assert!(rt; story_goes_on(&rt, rt.alloc())?);
-    Ok(())
+fn a_run_goes_on_where_it_stopped(rt: HostRuntime) {
+    assert!(rt; story_goes_on(&rt, rt.alloc()));
 }
 
 /// A post that is tried once, with the table of its tenant.
@@ -307,34 +304,34 @@ turn 0 2100 = idle 0",
 };
 
 /// What stands before and behind the post is told.
-fn lines_around_are_told<R: Threads + Sync>(
+fn lines_around_are_told<R: Threads + Abort + Sync>(
     rt: &R,
     alloc: Global,
     fixture: &mut Fixture,
     tried: &Tried,
-) -> Result<(), Fail> {
-    lines_are_told(rt, alloc, fixture, tried.before)?;
-    let post = step_of(rt, alloc, &fixture.settings, tried.post)?;
+) {
+    lines_are_told(rt, alloc, fixture, tried.before);
+    let post = step_of(rt, alloc, &fixture.settings, tried.post);
     let behind = match fixture.shard.step(&post) {
         Ok(_) => tried.taken,
         Err(_) => tried.refused,
     };
-    lines_are_told(rt, alloc, fixture, behind)
+    lines_are_told(rt, alloc, fixture, behind);
 }
 
 /// The same of a new shard.
-fn is_tried<R: Threads + Sync>(rt: &R, alloc: Global, tried: &Tried) -> Result<(), Fail> {
-    let mut fixture = shard_of(alloc, &[tried.table], &[0])?;
-    lines_around_are_told(rt, alloc, &mut fixture, tried)
+fn is_tried<R: Threads + Abort + Sync>(rt: &R, alloc: Global, tried: &Tried) {
+    let mut fixture = shard_of(rt, alloc, &[tried.table], &[0]);
+    lines_around_are_told(rt, alloc, &mut fixture, tried);
 }
 
 #[test]
-fn a_refused_post_leaves_what_is_remembered_as_it_was(rt: HostRuntime) -> Result<(), Fail> {
-    is_tried(&rt, rt.alloc(), &SAMPLED)?;
-    is_tried(&rt, rt.alloc(), &DROPPED)
+fn a_refused_post_leaves_what_is_remembered_as_it_was(rt: HostRuntime) {
+    is_tried(&rt, rt.alloc(), &SAMPLED);
+    is_tried(&rt, rt.alloc(), &DROPPED);
 }
 
 #[test]
-fn a_refused_post_leaves_what_is_pending_as_it_was(rt: HostRuntime) -> Result<(), Fail> {
-    is_tried(&rt, rt.alloc(), &LATE)
+fn a_refused_post_leaves_what_is_pending_as_it_was(rt: HostRuntime) {
+    is_tried(&rt, rt.alloc(), &LATE);
 }

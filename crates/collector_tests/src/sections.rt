@@ -1,7 +1,7 @@
 //! Settings, what they say of tenants beside their names, and a shard of such tenants.
 
-use std::alloc::{AllocError, Global};
-use std::test::Fail;
+use std::alloc::Global;
+use std::process::Abort;
 use tail_settings::{Settings, load};
 use tenant_shard::Shard;
 
@@ -50,13 +50,13 @@ decision_cache = { sampled_cache_size = 1, non_sampled_cache_size = 1 }, \
 policy = [{ type = \"status_code\", status_codes = [\"ERROR\"] }] }, batch = { timeout_ms = 0 }";
 
 /// Settings of tenants a, b and c, or the first of them, each with these tables.
-pub fn settings_of(alloc: Global, tables: &[&str]) -> Result<Settings, Fail> {
-    let mut tenants = String::new(alloc);
+pub fn settings_of(rt: &impl Abort, alloc: Global, tables: &[&str]) -> Settings {
+    let mut text = String::from_str(alloc, "tenant = [").expect(rt, "memory");
     for (name, table) in ["a", "b", "c"].iter().zip(tables.iter()) {
-        tenants = format!(in alloc; "{tenants}{{ name = \"{name}\", {table} }}, ")?;
+        text = format!(in alloc; "{text}{{ name = \"{name}\", {table} }}, ").expect(rt, "memory");
     }
-    let text = format!(in alloc; "tenant = [{tenants}]")?;
-    Ok(load(alloc, text.as_str())?)
+    text.push_str("]").expect(rt, "memory");
+    load(alloc, text.as_str()).expect(rt, "good settings")
 }
 
 /// A shard, and the settings of its tenants.
@@ -67,13 +67,13 @@ pub struct Fixture {
 }
 
 /// A new shard with these members.
-pub fn opened(alloc: Global, settings: Settings, members: &[u32]) -> Result<Fixture, AllocError> {
-    let shard = Shard::open(alloc, &settings, members)?;
-    Ok(Fixture { settings, shard })
+pub fn opened(rt: &impl Abort, alloc: Global, settings: Settings, members: &[u32]) -> Fixture {
+    let shard = Shard::open(alloc, &settings, members).expect(rt, "memory");
+    Fixture { settings, shard }
 }
 
 /// A new shard with these members, of tenants with these tables.
-pub fn shard_of(alloc: Global, tables: &[&str], members: &[u32]) -> Result<Fixture, Fail> {
-    let settings = settings_of(alloc, tables)?;
-    Ok(opened(alloc, settings, members)?)
+pub fn shard_of(rt: &impl Abort, alloc: Global, tables: &[&str], members: &[u32]) -> Fixture {
+    let settings = settings_of(rt, alloc, tables);
+    opened(rt, alloc, settings, members)
 }
