@@ -2,7 +2,8 @@
 
 use crate::lines::small;
 use send_retry::Answer;
-use std::alloc::{AllocError, Global};
+use std::alloc::Global;
+use std::process::Abort;
 
 /// The body of a name: partial successes (`ExportTracePartialSuccess`, whose field 1 is the number of rejected spans),
 /// one without a number, one of less than none, -1 in ten bytes, and one that is cut short.
@@ -25,17 +26,18 @@ fn wait(word: &str) -> Option<u32> {
 
 /// An answer of a status, a `Retry-After` and a body, each `-` where there is none; or none came, which is `failed`.
 pub fn answer(
+    rt: &impl Abort,
     alloc: Global,
     status: &str,
     retry_after: &str,
     name: &str,
-) -> Result<Answer, AllocError> {
+) -> Answer {
     match status.parse::<u16>() {
-        Ok(status) => Ok(Answer::Http {
+        Ok(status) => Answer::Http {
             status,
             retry_after: wait(retry_after),
-            body: Vec::from_slice(alloc, body(name))?,
-        }),
-        Err(_) => Ok(Answer::Failed),
+            body: Vec::from_slice(alloc, body(name)).expect(rt, "memory"),
+        },
+        Err(_) => Answer::Failed,
     }
 }

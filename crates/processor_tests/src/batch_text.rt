@@ -6,13 +6,13 @@ ghost use Rattle.processor_tests.specs.BatchTexts.{Requests, ReadablePlaces};
 use crate::lines::{cut, parts, small};
 use span_batcher::{BatchText, batches_are_requests};
 use span_pool::{SharedKeys, StoredSpan, TextKeys};
-use std::alloc::{AllocError, Global};
-use std::test::Fail;
+use std::alloc::Global;
+use std::process::Abort;
 use text_pool::{SharedBytes, TextPool};
 use text_slice::TextSlice;
 
 /// Resources of which one and two attributes were left out: field 2; a scope named s: field 1; URLs, and an empty text.
-fn text_of(alloc: Global, name: &str) -> Result<SharedBytes, AllocError> {
+fn text_of(rt: &impl Abort, alloc: Global, name: &str) -> SharedBytes {
     let bytes: &[u8] = match name {
         "one" => b"\x10\x01",
         "two" => b"\x10\x02",
@@ -21,21 +21,23 @@ fn text_of(alloc: Global, name: &str) -> Result<SharedBytes, AllocError> {
         "v" => b"v",
         _ => b"",
     };
-    SharedBytes::of(alloc, TextSlice::copy_from_slice(alloc, bytes)?)
+    let text = TextSlice::copy_from_slice(alloc, bytes).expect(rt, "memory");
+    SharedBytes::of(alloc, text).expect(rt, "memory")
+}
+
+/// The key of the tenant's text of this name.
+fn held(rt: &impl Abort, alloc: Global, pool: &mut TextPool, owner: u32, name: &str) -> u32 {
+    let text = text_of(rt, alloc, name);
+    pool.hold(owner, &text).expect(rt, "memory")
 }
 
 /// The key of a tenant's text: of one that it has, of another tenant's, of none; or no key.
-fn key(
-    alloc: Global,
-    pool: &mut TextPool,
-    owner: u32,
-    name: &str,
-) -> Result<Option<u32>, AllocError> {
+fn key(rt: &impl Abort, alloc: Global, pool: &mut TextPool, owner: u32, name: &str) -> Option<u32> {
     match name {
-        "-" => Ok(None),
-        "others" => Ok(Some(pool.hold(9, &text_of(alloc, "one")?)?)),
-        "gone" => Ok(Some(1000)),
-        _ => Ok(Some(pool.hold(owner, &text_of(alloc, name)?)?)),
+        "-" => None,
+        "others" => Some(held(rt, alloc, pool, 9, "one")),
+        "gone" => Some(1000),
+        _ => Some(held(rt, alloc, pool, owner, name)),
     }
 }
 
@@ -50,52 +52,51 @@ fn named(name: &str) -> &'static [u8] {
 
 /// A span as `7:a:one:u:s:v` spells it: whose it is, its name, and a resource and a scope, each with the URL of its
 /// schema.
-fn spelled(alloc: Global, pool: &mut TextPool, word: &str) -> Result<StoredSpan, AllocError> {
+fn spelled(rt: &impl Abort, alloc: Global, pool: &mut TextPool, word: &str) -> StoredSpan {
     let [owner, name, resource, resource_url, scope, scope_url, _] = parts(word, ':');
     let owner = small(owner);
     let keys = TextKeys {
-        resource: key(alloc, pool, owner, resource)?,
-        resource_schema_url: key(alloc, pool, owner, resource_url)?,
-        scope: key(alloc, pool, owner, scope)?,
-        scope_schema_url: key(alloc, pool, owner, scope_url)?,
+        resource: key(rt, alloc, pool, owner, resource),
+        resource_schema_url: key(rt, alloc, pool, owner, resource_url),
+        scope: key(rt, alloc, pool, owner, scope),
+        scope_schema_url: key(rt, alloc, pool, owner, scope_url),
     };
-    let source = SharedKeys::of(alloc, owner, keys)?;
-    let text = TextSlice::copy_from_slice(alloc, named(name))?;
-    Ok(StoredSpan::of(source, text))
+    let source = SharedKeys::of(alloc, owner, keys).expect(rt, "memory");
+    let text = TextSlice::copy_from_slice(alloc, named(name)).expect(rt, "memory");
+    StoredSpan::of(source, text)
 }
 
-fn all_spelled(
-    alloc: Global,
-    pool: &mut TextPool,
-    text: &str,
-) -> Result<Vec<StoredSpan>, AllocError> {
+fn all_spelled(rt: &impl Abort, alloc: Global, pool: &mut TextPool, text: &str) -> Vec<StoredSpan> {
     let mut spans = Vec::new(alloc);
     for word in text.split(' ') {
-        spans.push(spelled(alloc, pool, word)?)?;
+        let span = spelled(rt, alloc, pool, word);
+        spans.push(span).expect(rt, "memory");
     }
-    Ok(spans)
+    spans
 }
 
 /// Whether the batch of these spans has these bytes, and says how many they are before it is written.
 fn is_batch(
+    rt: &impl Abort,
     alloc: Global,
     pool: &TextPool,
     spans: &[StoredSpan],
     bytes: &[u8],
-) -> Result<bool, AllocError> {
+) -> bool {
     let mut lent = Vec::new(alloc);
     for span in spans {
-        lent.push(span)?;
+        lent.push(span).expect(rt, "memory");
     }
-    let batch = BatchText::of(alloc, pool, lent.as_slice())?;
-    Ok(batch.size() == bytes.len() && batch.write(alloc)?.as_slice() == bytes)
+    let batch = BatchText::of(alloc, pool, lent.as_slice()).expect(rt, "memory");
+    let written = batch.write(alloc).expect(rt, "memory");
+    batch.size() == bytes.len() && written.as_slice() == bytes
 }
 
 /// Whether these spans are sent as these bytes.
-fn are_sent_as(alloc: Global, text: &str, bytes: &[u8]) -> Result<bool, AllocError> {
+fn are_sent_as(rt: &impl Abort, alloc: Global, text: &str, bytes: &[u8]) -> bool {
     let mut pool = TextPool::new(alloc);
-    let spans = all_spelled(alloc, &mut pool, text)?;
-    is_batch(alloc, &pool, spans.as_slice(), bytes)
+    let spans = all_spelled(rt, alloc, &mut pool, text);
+    is_batch(rt, alloc, &pool, spans.as_slice(), bytes)
 }
 
 /// The bytes of a batch by a name.
@@ -159,24 +160,22 @@ const BATCHES: &str = "\
 7:a:one:-:-:- 8:b:one:-:-:- 7:c:one:-:-:- = keys";
 
 #[test]
-fn spans_are_sent_with_their_resources_and_scopes(rt: HostRuntime) -> Result<(), Fail> {
+fn spans_are_sent_with_their_resources_and_scopes(rt: HostRuntime) {
     for line in BATCHES.lines() {
         let (spans, name) = cut(line, " = ");
         assert!(rt;
-            are_sent_as(rt.alloc(), spans, bytes_of(name))?,
+            are_sent_as(&rt, rt.alloc(), spans, bytes_of(name)),
             "at {line}"
         );
     }
-    Ok(())
 }
 
 #[test]
-fn no_spans_are_no_bytes(rt: HostRuntime) -> Result<(), Fail> {
+fn no_spans_are_no_bytes(rt: HostRuntime) {
     let pool = TextPool::new(rt.alloc());
     let spans: [StoredSpan; 0] = [];
-    assert!(rt; is_batch(rt.alloc(), &pool, spans.as_slice(), b"")?);
+    assert!(rt; is_batch(&rt, rt.alloc(), &pool, spans.as_slice(), b""));
     batches_are_requests();
-    Ok(())
 }
 
 /// The definitions, on small inputs, give what was worked out by hand.

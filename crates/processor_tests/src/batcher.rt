@@ -6,31 +6,31 @@ use crate::lines::{cut, number, small};
 use span_batcher::{Batch, SpanBatcher};
 use std::alloc::{AllocError, Global};
 use std::process::Abort;
-use std::test::Fail;
 
 /// A group comes; where it has no span, or the timer runs out first, nothing changes.
 fn added(
+    rt: &impl Abort,
     alloc: Global,
     batcher: &mut SpanBatcher,
     moment: u64,
     spans: &[u32],
-) -> Result<Vec<Batch>, AllocError>
+) -> Vec<Batch>
     requires { moment ≤ 2 ^ 62 }
 {
     if spans.is_empty() {
-        return Ok(Vec::new(alloc));
+        return Vec::new(alloc);
     }
     match batcher.next_due() {
         Some(due) => {
             if due <= moment {
-                return Ok(Vec::new(alloc));
+                return Vec::new(alloc);
             }
-            let planned = batcher.plan(moment, spans)?;
-            Ok(batcher.take(planned))
+            let planned = batcher.plan(moment, spans).expect(rt, "memory");
+            batcher.take(planned)
         }
         None => {
-            let planned = batcher.plan(moment, spans)?;
-            Ok(batcher.take(planned))
+            let planned = batcher.plan(moment, spans).expect(rt, "memory");
+            batcher.take(planned)
         }
     }
 }
@@ -75,12 +75,12 @@ fn drained(batcher: &mut SpanBatcher, moment: u64) -> Option<Batch> {
 }
 
 /// The numbers of spans that spaces part.
-fn spans_of(alloc: Global, text: &str) -> Result<Vec<u32>, AllocError> {
+fn spans_of(rt: &impl Abort, alloc: Global, text: &str) -> Vec<u32> {
     let mut spans = Vec::new(alloc);
     for word in text.split(' ') {
-        spans.push(small(word))?;
+        spans.push(small(word)).expect(rt, "memory");
     }
-    Ok(spans)
+    spans
 }
 
 /// Whether a batch is of this moment and these spans, as `1000 21 22` spells it.
@@ -124,40 +124,35 @@ fn is_due(due: Option<u64>, spelled: &str) -> bool {
 
 /// Whether spans that come make these batches: `MOMENT SPAN ..`.
 fn adds(
+    rt: &impl Abort,
     alloc: Global,
     batcher: &mut SpanBatcher,
     asked: &str,
     wanted: &str,
-) -> Result<bool, AllocError> {
+) -> bool {
     let (moment, spelled) = cut(asked, " ");
-    let spans = spans_of(alloc, spelled)?;
+    let spans = spans_of(rt, alloc, spelled);
     let moment = number(moment).min(1 << 62);
-    let batches = added(alloc, batcher, moment, spans.as_slice())?;
-    Ok(are_batches(batches.as_slice(), wanted))
+    let batches = added(rt, alloc, batcher, moment, spans.as_slice());
+    are_batches(batches.as_slice(), wanted)
 }
 
 /// Whether a step of a story comes true.
-fn goes(alloc: Global, batcher: &mut SpanBatcher, line: &str) -> Result<bool, AllocError> {
+fn goes(rt: &impl Abort, alloc: Global, batcher: &mut SpanBatcher, line: &str) -> bool {
     let (asked, wanted) = cut(line, " = ");
     let (call, rest) = cut(asked, " ");
     match call {
-        "add" => adds(alloc, batcher, rest, wanted),
-        "fire" => Ok(is_one(fired(batcher), wanted)),
-        "drain" => Ok(is_one(drained(batcher, number(rest)), wanted)),
-        _ => Ok(is_due(batcher.next_due(), wanted)),
+        "add" => adds(rt, alloc, batcher, rest, wanted),
+        "fire" => is_one(fired(batcher), wanted),
+        "drain" => is_one(drained(batcher, number(rest)), wanted),
+        _ => is_due(batcher.next_due(), wanted),
     }
 }
 
-fn tell(
-    rt: &impl Abort,
-    alloc: Global,
-    mut batcher: SpanBatcher,
-    story: &str,
-) -> Result<(), AllocError> {
+fn tell(rt: &impl Abort, alloc: Global, mut batcher: SpanBatcher, story: &str) {
     for line in story.lines() {
-        assert!(rt; goes(alloc, &mut batcher, line)?, "at {line}");
+        assert!(rt; goes(rt, alloc, &mut batcher, line), "at {line}");
     }
-    Ok(())
 }
 
 /// Two spans fill a batch, and three are the most in one; the rest waits its 200 milliseconds. A group that comes when
@@ -173,18 +168,16 @@ due = none
 drain 1500 = none";
 
 #[test]
-fn seven_spans_leave_as_three_and_three_and_the_last_in_time(rt: HostRuntime) -> Result<(), Fail> {
+fn seven_spans_leave_as_three_and_three_and_the_last_in_time(rt: HostRuntime) {
     let batcher = SpanBatcher::new(rt.alloc(), 200, 2, 3);
-    tell(&rt, rt.alloc(), batcher, THREES)?;
-    Ok(())
+    tell(&rt, rt.alloc(), batcher, THREES);
 }
 
 #[test]
-fn without_a_timer_nothing_waits(rt: HostRuntime) -> Result<(), Fail> {
+fn without_a_timer_nothing_waits(rt: HostRuntime) {
     let batcher = SpanBatcher::new(rt.alloc(), 0, 2, 3);
     let all = "add 1000 21 22 23 24 25 26 27 = 1000 21 22 23, 1000 24 25 26, 1000 27\ndue = none";
-    tell(&rt, rt.alloc(), batcher, all)?;
-    Ok(())
+    tell(&rt, rt.alloc(), batcher, all);
 }
 
 /// A span, and another when its timer runs out, which is first.
@@ -196,10 +189,9 @@ add 2000 22 = none
 due = 3000";
 
 #[test]
-fn the_timer_is_first(rt: HostRuntime) -> Result<(), Fail> {
+fn the_timer_is_first(rt: HostRuntime) {
     let batcher = SpanBatcher::new(rt.alloc(), 1000, 8192, 0);
-    tell(&rt, rt.alloc(), batcher, TIMER_FIRST)?;
-    Ok(())
+    tell(&rt, rt.alloc(), batcher, TIMER_FIRST);
 }
 
 /// The third of three spans that came alone fills a batch, and a drain takes all that waits.
@@ -213,33 +205,30 @@ drain 1100 = 1100 24 25
 due = none";
 
 #[test]
-fn spans_of_several_groups_share_a_batch(rt: HostRuntime) -> Result<(), Fail> {
+fn spans_of_several_groups_share_a_batch(rt: HostRuntime) {
     let batcher = SpanBatcher::new(rt.alloc(), 200, 3, 0);
-    tell(&rt, rt.alloc(), batcher, ALONE)?;
-    Ok(())
+    tell(&rt, rt.alloc(), batcher, ALONE);
 }
 
 #[test]
-fn spans_that_fill_no_batch_are_appended(rt: HostRuntime) -> Result<(), Fail> {
+fn spans_that_fill_no_batch_are_appended(rt: HostRuntime) {
     let mut batcher = SpanBatcher::new(rt.alloc(), 200, 3, 0);
     assert!(rt; !batcher.fills(2) && batcher.fills(3));
-    appended(&mut batcher, 1000, &[21])?;
+    appended(&mut batcher, 1000, &[21]).expect(&rt, "memory");
     assert!(rt; !batcher.fills(1) && batcher.fills(2));
-    appended(&mut batcher, 1100, &[22])?;
+    appended(&mut batcher, 1100, &[22]).expect(&rt, "memory");
     assert!(rt; batcher.spans() == [21_u32, 22].as_slice() && batcher.next_due() == Some(1200));
-    Ok(())
 }
 
 #[test]
-fn appended_spans_are_taken_back(rt: HostRuntime) -> Result<(), Fail> {
+fn appended_spans_are_taken_back(rt: HostRuntime) {
     let mut batcher = SpanBatcher::new(rt.alloc(), 200, 4, 0);
     let none = batcher.mark();
-    appended(&mut batcher, 1000, &[21])?;
+    appended(&mut batcher, 1000, &[21]).expect(&rt, "memory");
     let one = batcher.mark();
-    appended(&mut batcher, 1100, &[22, 23])?;
+    appended(&mut batcher, 1100, &[22, 23]).expect(&rt, "memory");
     batcher.cut_back(one);
     assert!(rt; batcher.spans() == [21_u32].as_slice() && batcher.next_due() == Some(1200));
     batcher.cut_back(none);
     assert!(rt; batcher.spans().is_empty() && batcher.next_due().is_none());
-    Ok(())
 }

@@ -5,7 +5,6 @@ use crate::policies::{RESOURCE, checked, loaded, policies_of, span_of};
 use span_view::{SpanRef, is_text};
 use std::alloc::{AllocError, Global};
 use std::process::Abort;
-use std::test::Fail;
 use tail_policy::{
     AllOf, AnyOf, Policy, PolicyByParts, TenantPolicies, TraceNote, keeps, views_of_parts,
 };
@@ -37,44 +36,45 @@ fn noted_span(name: &str) -> &'static [u8] {
 }
 
 /// 64 policies: of the numbers 0 to 62 of `k` in one `and`, and of 63 by itself.
-fn sixty_four(alloc: Global) -> Result<String, Fail> {
-    let mut text = String::new(alloc);
-    text.push_str("[{ type = \"and\", and_sub_policy = [")?;
+fn sixty_four(rt: &impl Abort, alloc: Global) -> String {
+    let beginning = "[{ type = \"and\", and_sub_policy = [";
+    let mut text = String::from_str(alloc, beginning).expect(rt, "memory");
     for number in 0..63 {
         let policy = format!(in alloc;
             "{{ type = \"numeric_attribute\", key = \"k\", min_value = {number}, max_value = {number} }}, "
-        )?;
-        text.push_str(policy.as_str())?;
+        ).expect(rt, "memory");
+        text.push_str(policy.as_str()).expect(rt, "memory");
     }
     text.push_str(
         "] }, { type = \"numeric_attribute\", key = \"k\", min_value = 63, max_value = 63 }]",
-    )?;
-    Ok(text)
+    ).expect(rt, "memory");
+    text
 }
 
 /// The settings of a tenant with them.
-fn sixty_four_loaded(alloc: Global) -> Result<Settings, Fail> {
-    let text = sixty_four(alloc)?;
-    loaded(alloc, text.as_str())
+fn sixty_four_loaded(rt: &impl Abort, alloc: Global) -> Settings {
+    let text = sixty_four(rt, alloc);
+    loaded(rt, alloc, text.as_str())
 }
 
 /// The settings of two tenants with policies of these names.
-fn both_loaded(alloc: Global, first: &str, second: &str) -> Result<Settings, Fail> {
+fn both_loaded(rt: &impl Abort, alloc: Global, first: &str, second: &str) -> Settings {
     let (first, second) = (policies_of(first), policies_of(second));
     let text = format!(in alloc;
         "[[tenant]]\nname = \"a\"\ntail_sampling.policy = {first}\n\
 [[tenant]]\nname = \"b\"\ntail_sampling.policy = {second}\n"
-    )?;
-    Ok(load(alloc, text.as_str())?)
+    )
+    .expect(rt, "memory");
+    load(alloc, text.as_str()).expect(rt, "good settings")
 }
 
 /// Settings by a name: of the policies that it has for one tenant, or for two.
-fn settings_of(alloc: Global, name: &str) -> Result<Settings, Fail> {
+fn settings_of(rt: &impl Abort, alloc: Global, name: &str) -> Settings {
     match name {
-        "sixty-four" => sixty_four_loaded(alloc),
-        "error+has-v" => both_loaded(alloc, "error", "has-v"),
-        "error+has-w" => both_loaded(alloc, "error", "has-w"),
-        _ => loaded(alloc, policies_of(name)),
+        "sixty-four" => sixty_four_loaded(rt, alloc),
+        "error+has-v" => both_loaded(rt, alloc, "error", "has-v"),
+        "error+has-w" => both_loaded(rt, alloc, "error", "has-w"),
+        _ => loaded(rt, alloc, policies_of(name)),
     }
 }
 
@@ -207,25 +207,24 @@ fn is_sampled_in_parts(rt: &impl Abort, settings: &Settings, line: &str) -> bool
 }
 
 /// Whether a line comes true: policies by their name, and behind it what is asked of them and what they say.
-fn comes_true(rt: &impl Abort, alloc: Global, asked: &str, line: &str) -> Result<bool, Fail> {
+fn comes_true(rt: &impl Abort, alloc: Global, asked: &str, line: &str) -> bool {
     let (policies, line) = cut(line, " ");
-    let settings = settings_of(alloc, policies)?;
-    Ok(match asked {
+    let settings = settings_of(rt, alloc, policies);
+    match asked {
         "note" => is_noted(rt, &settings, line),
         "join" => are_joined(&settings, line),
         "trace" => is_sampled(rt, &settings, line),
         "decide" => is_decided(&settings, line),
         "two" => is_sampled_by_two(rt, &settings, line),
         _ => is_sampled_in_parts(rt, &settings, line),
-    })
+    }
 }
 
 /// Asks each line of a table so.
-fn ask(rt: &impl Abort, alloc: Global, asked: &str, table: &str) -> Result<(), Fail> {
+fn ask(rt: &impl Abort, alloc: Global, asked: &str, table: &str) {
     for line in table.lines() {
-        assert!(rt; comes_true(rt, alloc, asked, line)?, "at {line}");
+        assert!(rt; comes_true(rt, alloc, asked, line), "at {line}");
     }
-    Ok(())
 }
 
 /// A span, a resource, and their note under policies of each kind. An error meets both policies of it, and no policy
@@ -239,8 +238,8 @@ each whole 8 = 16 0 18446744073709551615
 each backwards w = 8 18446744073709551615 0";
 
 #[test]
-fn notes_of_each_kind(rt: HostRuntime) -> Result<(), Fail> {
-    ask(&rt, rt.alloc(), "note", NOTES)
+fn notes_of_each_kind(rt: HostRuntime) {
+    ask(&rt, rt.alloc(), "note", NOTES);
 }
 
 /// Policies, a span, a resource, and their note: where no policy asks for an attribute, where one in an `and` alone
@@ -264,8 +263,8 @@ has-w ok w = 1 0 0
 each value-first - = 72 0 0";
 
 #[test]
-fn notes_where_little_is_asked(rt: HostRuntime) -> Result<(), Fail> {
-    ask(&rt, rt.alloc(), "note", ASKED)
+fn notes_where_little_is_asked(rt: HostRuntime) {
+    ask(&rt, rt.alloc(), "note", ASKED);
 }
 
 /// Two notes, and theirs together: all bits, the first start and the last end.
@@ -276,8 +275,8 @@ each 0 18446744073709551615 0 2 18446744073709551615 0 = 2 18446744073709551615 
 each 1 9 5 2 7 6 = 3 7 6";
 
 #[test]
-fn joined_notes_have_all_bits_and_both_ends(rt: HostRuntime) -> Result<(), Fail> {
-    ask(&rt, rt.alloc(), "join", JOINED)
+fn joined_notes_have_all_bits_and_both_ends(rt: HostRuntime) {
+    ask(&rt, rt.alloc(), "join", JOINED);
 }
 
 /// Policies, two spans, and whether their trace is sampled. What is joined may be met by different spans, and another
@@ -294,8 +293,8 @@ both-or-8 late-error late-error = no
 both-or-8 twice twice = no";
 
 #[test]
-fn verdicts_by_notes(rt: HostRuntime) -> Result<(), Fail> {
-    ask(&rt, rt.alloc(), "trace", VERDICTS)
+fn verdicts_by_notes(rt: HostRuntime) {
+    ask(&rt, rt.alloc(), "trace", VERDICTS);
 }
 
 /// Policies, a note, and whether its trace is sampled. The bit of a policy of time says nothing.
@@ -311,8 +310,8 @@ second 0 5 1000000005 = yes
 second 0 1000000005 5 = no";
 
 #[test]
-fn notes_are_decided(rt: HostRuntime) -> Result<(), Fail> {
-    ask(&rt, rt.alloc(), "decide", DECIDED)
+fn notes_are_decided(rt: HostRuntime) {
+    ask(&rt, rt.alloc(), "decide", DECIDED);
 }
 
 /// A span with a number, and which bits are set.
@@ -323,8 +322,8 @@ sixty-four k-63 - = 9223372036854775808 0 0
 sixty-four k-64 - = 0 0 0";
 
 #[test]
-fn sixty_four_policies_have_a_bit_each(rt: HostRuntime) -> Result<(), Fail> {
-    ask(&rt, rt.alloc(), "note", BITS)
+fn sixty_four_policies_have_a_bit_each(rt: HostRuntime) {
+    ask(&rt, rt.alloc(), "note", BITS);
 }
 
 /// The last policy alone; all of the `and`, none missing, and but one.
@@ -336,8 +335,8 @@ sixty-four 4611686018427387903 0 0 = no
 sixty-four 0 0 0 = no";
 
 #[test]
-fn sixty_four_policies_are_decided(rt: HostRuntime) -> Result<(), Fail> {
-    ask(&rt, rt.alloc(), "decide", SIXTY_FOUR_DECIDED)
+fn sixty_four_policies_are_decided(rt: HostRuntime) {
+    ask(&rt, rt.alloc(), "decide", SIXTY_FOUR_DECIDED);
 }
 
 /// Two spans, and whether an error or a text is enough, and whether both are there, be it by different spans.
@@ -348,8 +347,8 @@ error+has-v twice twice = yes no
 error+has-v backwards backwards = no no";
 
 #[test]
-fn one_policy_of_two_or_both(rt: HostRuntime) -> Result<(), Fail> {
-    ask(&rt, rt.alloc(), "two", TWO)
+fn one_policy_of_two_or_both(rt: HostRuntime) {
+    ask(&rt, rt.alloc(), "two", TWO);
 }
 
 /// A span, a resource, and whether they are sampled.
@@ -360,7 +359,7 @@ error+has-w twice w = no
 error+has-w backwards 8 = no";
 
 #[test]
-fn what_resources_tell_two_policies(rt: HostRuntime) -> Result<(), Fail> {
+fn what_resources_tell_two_policies(rt: HostRuntime) {
     views_of_parts();
-    ask(&rt, rt.alloc(), "parts", PARTS)
+    ask(&rt, rt.alloc(), "parts", PARTS);
 }

@@ -7,7 +7,6 @@ use crate::lines::{cut, words};
 use span_view::{SpanRef, is_text};
 use std::alloc::Global;
 use std::process::Abort;
-use std::test::Fail;
 use tail_policy::keeps;
 use tail_settings::{Settings, load};
 
@@ -152,20 +151,22 @@ pub fn checked<'a>(rt: &impl Abort, span: &'a [u8], resource: &'a [u8]) -> SpanR
 }
 
 /// The settings of one tenant with the policies of this array in TOML.
-pub fn loaded(alloc: Global, policies: &str) -> Result<Settings, Fail> {
-    let text = format!(in alloc; "[[tenant]]\nname = \"a\"\ntail_sampling.policy = {policies}\n")?;
-    Ok(load(alloc, text.as_str())?)
+pub fn loaded(rt: &impl Abort, alloc: Global, policies: &str) -> Settings {
+    let text = format!(in alloc;
+        "[[tenant]]\nname = \"a\"\ntail_sampling.policy = {policies}\n"
+    ).expect(rt, "memory");
+    load(alloc, text.as_str()).expect(rt, "good settings")
 }
 
 /// Whether a trace with these spans is sampled by policies of this name.
-fn is_sampled(alloc: Global, policies: &str, spans: &[SpanRef<'_>]) -> Result<bool, Fail>
+fn is_sampled(rt: &impl Abort, alloc: Global, policies: &str, spans: &[SpanRef<'_>]) -> bool
     requires { 0 < length spans.now }
 {
-    let settings = loaded(alloc, policies_of(policies))?;
-    Ok(match settings.section(0) {
+    let settings = loaded(rt, alloc, policies_of(policies));
+    match settings.section(0) {
         Some(section) => keeps(&section.tail_sampling.policies, spans),
         None => false,
-    })
+    }
 }
 
 /// The same of the trace of one span by its name, or of two.
@@ -175,13 +176,13 @@ fn is_named_sampled(
     policies: &str,
     first: &str,
     second: &str,
-) -> Result<bool, Fail> {
+) -> bool {
     let one = checked(rt, span_of(first), RESOURCE);
     if second.is_empty() {
-        return is_sampled(alloc, policies, &[one]);
+        return is_sampled(rt, alloc, policies, &[one]);
     }
     let other = checked(rt, span_of(second), RESOURCE);
-    is_sampled(alloc, policies, &[one, other])
+    is_sampled(rt, alloc, policies, &[one, other])
 }
 
 /// Policies, one span or two, and whether their trace is sampled:
@@ -232,14 +233,13 @@ longer second = no
 longer-or-any second = yes";
 
 #[test]
-fn traces_of_one_span_and_of_two(rt: HostRuntime) -> Result<(), Fail> {
+fn traces_of_one_span_and_of_two(rt: HostRuntime) {
     for line in CASES.lines() {
         let (asked, wanted) = cut(line, " = ");
         let [policies, first, second, _, _, _, _] = words(asked);
-        let sampled = is_named_sampled(&rt, rt.alloc(), policies, first, second)?;
+        let sampled = is_named_sampled(&rt, rt.alloc(), policies, first, second);
         assert!(rt; sampled == (wanted == "yes"), "at {line}");
     }
-    Ok(())
 }
 
 /// The definitions, where there is no policy, give what was worked out by hand.

@@ -5,9 +5,8 @@ use crate::retry_settings::ENDLESS;
 use bytes::Bytes;
 use send_queue::{Batch, OfferFault, SendQueue, Settled};
 use send_retry::Answer;
-use std::alloc::{AllocError, Global};
+use std::alloc::Global;
 use std::process::Abort;
-use std::test::Fail;
 use tail_settings::{MOST_QUEUE_BYTES, SendingQueue};
 
 const TWO_AT_A_TIME: SendingQueue = SendingQueue {
@@ -46,13 +45,13 @@ fn is_taken_at_last(rt: &impl Abort, queue: &mut SendQueue, payload: &'static [u
 }
 
 /// The ticket of the next job, 0 for none. Where memory is refused nothing has changed, and it is asked for again.
-fn ticket_at_last(rt: &impl Abort, queue: &mut SendQueue, moment: u64) -> Result<u64, AllocError> {
+fn ticket_at_last(rt: &impl Abort, queue: &mut SendQueue, moment: u64) -> u64 {
     let before = seen(queue);
     if let Ok(job) = queue.take_job(moment) {
-        return Ok(ticket_of(job));
+        return ticket_of(job);
     }
     assert!(rt; seen(queue) == before);
-    Ok(ticket_of(queue.take_job(moment)?))
+    ticket_of(queue.take_job(moment).expect(rt, "memory"))
 }
 
 fn ticket_of(job: Option<(u64, Bytes)>) -> u64 {
@@ -79,32 +78,26 @@ fn spans_taken_back(queue: &mut SendQueue) -> u64 {
 }
 
 /// What a call gives: a ticket, a moment or a count of spans, 0 for none; or whether it is so, 0 or 1.
-fn given(rt: &impl Abort, queue: &mut SendQueue, asked: &'static str) -> Result<u64, AllocError> {
+fn given(rt: &impl Abort, queue: &mut SendQueue, asked: &'static str) -> u64 {
     let [call, argument, _, _, _, _, _] = words(asked);
     match call {
-        "offer" => Ok(u64::from(is_taken_at_last(rt, queue, argument.as_bytes()))),
-        "back" => Ok(spans_taken_back(queue)),
+        "offer" => u64::from(is_taken_at_last(rt, queue, argument.as_bytes())),
+        "back" => spans_taken_back(queue),
         "job" => ticket_at_last(rt, queue, number(argument)),
-        "failed" => Ok(due_of_failed(queue, number(argument))),
-        "leaving" => Ok(queue.leaving(number(argument))),
-        "ready" => Ok(queue.ready().unwrap_or(0)),
-        _ => Ok(u64::from(queue.is_empty())),
+        "failed" => due_of_failed(queue, number(argument)),
+        "leaving" => queue.leaving(number(argument)),
+        "ready" => queue.ready().unwrap_or(0),
+        _ => u64::from(queue.is_empty()),
     }
 }
 
-/// Tells a story of calls and of what they give to a sender.
-fn tell_to(rt: &impl Abort, queue: &mut SendQueue, story: &'static str) -> Result<(), AllocError> {
+/// Tells a story of calls and of what they give to a new sender.
+fn tell(rt: &impl Abort, alloc: Global, story: &'static str) {
+    let mut queue = SendQueue::new(alloc, &TWO_AT_A_TIME, &ENDLESS).expect(rt, "memory");
     for line in story.lines() {
         let (asked, wanted) = cut(line, " = ");
-        assert!(rt; given(rt, queue, asked)? == number(wanted), "at {line}");
+        assert!(rt; given(rt, &mut queue, asked) == number(wanted), "at {line}");
     }
-    Ok(())
-}
-
-/// The same of a new sender.
-fn tell(rt: &impl Abort, alloc: Global, story: &'static str) -> Result<(), Fail> {
-    let mut queue = SendQueue::new(alloc, &TWO_AT_A_TIME, &ENDLESS)?;
-    Ok(tell_to(rt, &mut queue, story)?)
 }
 
 /// Two of three batches are sent, fail, and are sent again.
@@ -124,8 +117,8 @@ leaving 3500 = 0";
 
 // Each run with one allocation refused has to end well, too.
 #[test]
-fn where_memory_is_refused_a_sender_stays(rt: HostRuntime) -> Result<(), Fail> {
-    tell(&rt, rt.alloc(), STORY)
+fn where_memory_is_refused_a_sender_stays(rt: HostRuntime) {
+    tell(&rt, rt.alloc(), STORY);
 }
 
 /// What a step offered before it was refused memory leaves again, the latest first.
@@ -145,6 +138,6 @@ ready = 0
 is-empty = 0";
 
 #[test]
-fn a_step_that_is_refused_memory_takes_back_its_batches(rt: HostRuntime) -> Result<(), Fail> {
-    tell(&rt, rt.alloc(), TAKEN_BACK)
+fn a_step_that_is_refused_memory_takes_back_its_batches(rt: HostRuntime) {
+    tell(&rt, rt.alloc(), TAKEN_BACK);
 }

@@ -4,8 +4,8 @@ use crate::answers::answer;
 use crate::lines::{cut, number, small, words};
 use crate::retry_settings::{ENDLESS, LONG_ENOUGH};
 use send_retry::{NextDelay, RetryState, Verdict, classify, next_delay};
-use std::alloc::{AllocError, Global};
-use std::test::Fail;
+use std::alloc::Global;
+use std::process::Abort;
 use tail_settings::RetryOnFailure;
 
 /// A millisecond less than is long enough.
@@ -27,11 +27,11 @@ const LONG_INTERVAL: RetryOnFailure = RetryOnFailure {
 };
 
 /// Whether two answers are equal.
-fn are_equal(alloc: Global, one: &str, other: &str) -> Result<bool, AllocError> {
+fn are_equal(rt: &impl Abort, alloc: Global, one: &str, other: &str) -> bool {
     let [status, retry_after, body, _, _, _, _] = words(one);
-    let first = answer(alloc, status, retry_after, body)?;
+    let first = answer(rt, alloc, status, retry_after, body);
     let [status, retry_after, body, _, _, _, _] = words(other);
-    Ok(first == answer(alloc, status, retry_after, body)?)
+    first == answer(rt, alloc, status, retry_after, body)
 }
 
 /// Answers that aren't `503 3 five`, each in one thing.
@@ -43,12 +43,14 @@ const OTHERS: &str = "\
 failed";
 
 #[test]
-fn answers_are_equal_in_all_that_they_say(rt: HostRuntime) -> Result<(), Fail> {
+fn answers_are_equal_in_all_that_they_say(rt: HostRuntime) {
     for other in OTHERS.lines() {
-        assert!(rt; !are_equal(rt.alloc(), "503 3 five", other)?, "at {other}");
-        assert!(rt; are_equal(rt.alloc(), other, other)?, "at {other}");
+        assert!(rt;
+            !are_equal(&rt, rt.alloc(), "503 3 five", other),
+            "at {other}"
+        );
+        assert!(rt; are_equal(&rt, rt.alloc(), other, other), "at {other}");
     }
-    Ok(())
 }
 
 /// The class of an answer, as a line spells it.
@@ -91,14 +93,13 @@ failed - - = again 0
 500 - - = never";
 
 #[test]
-fn each_answer_has_its_class(rt: HostRuntime) -> Result<(), Fail> {
+fn each_answer_has_its_class(rt: HostRuntime) {
     for line in CLASSES.lines() {
         let (spelled, wanted) = cut(line, " = ");
         let [status, retry_after, body, _, _, _, _] = words(spelled);
-        let answer = answer(rt.alloc(), status, retry_after, body)?;
+        let answer = answer(&rt, rt.alloc(), status, retry_after, body);
         assert!(rt; classify(&answer) == class(wanted), "at {line}");
     }
-    Ok(())
 }
 
 /// The moment of the next attempt, 0 where there is none.

@@ -9,7 +9,6 @@ use bytes::Bytes;
 use send_queue::{Batch, OfferFault, SendQueue, SettleFault, Settled, offers_are_undone};
 use std::alloc::{AllocError, Global};
 use std::process::Abort;
-use std::test::Fail;
 use tail_settings::{MOST_QUEUE_BYTES, RetryOnFailure, SendingQueue};
 
 /// What a call is to give: a word, and one or two numbers.
@@ -113,52 +112,54 @@ fn is_settled(settled: Result<Settled, SettleFault>, wanted: &Wanted<'_>) -> boo
 
 /// Whether an answer is settled as wanted: `TICKET MOMENT WORD`, and the answer.
 fn settles(
+    rt: &impl Abort,
     alloc: Global,
     queue: &mut SendQueue,
     asked: &str,
     wanted: &Wanted<'_>,
-) -> Result<bool, AllocError> {
+) -> bool {
     let [_, ticket, moment, word, status, retry_after, body] = words(asked);
-    let answer = answer(alloc, status, retry_after, body)?;
+    let answer = answer(rt, alloc, status, retry_after, body);
     let moment = number(moment).min(1 << 62);
-    Ok(is_settled(
+    is_settled(
         queue.settle(number(ticket), moment, small(word), &answer),
         wanted,
-    ))
+    )
 }
 
 /// Whether a step of a story comes true.
-fn goes(alloc: Global, queue: &mut SendQueue, line: &'static str) -> Result<bool, AllocError> {
+fn goes(rt: &impl Abort, alloc: Global, queue: &mut SendQueue, line: &'static str) -> bool {
     let (asked, spelled) = cut(line, " = ");
     let wanted = wanted_of(spelled);
     let [call, moment, payload, _, _, _, _] = words(asked);
     let moment = number(moment).min(1 << 62);
     match call {
-        "offer" => offers(queue, batch(moment, payload), &wanted),
-        "back" => Ok(takes_back(queue, &wanted)),
-        "job" => Ok(is_job(queue.take_job(moment)?, &wanted)),
-        "leaves" => Ok(is(&wanted, "spans", queue.leaving(moment), 0)),
-        "ready" => Ok(is_ready(queue.ready(), &wanted)),
-        "room" => Ok(has_room(queue, &wanted)),
-        "bytes" => Ok(has_bytes_left(queue, &wanted)),
-        "lift" => Ok(is(&wanted, "was", queue.lift_bound(), 0)),
-        "bound" => Ok(bounds_again(queue, moment, &wanted)),
-        _ => settles(alloc, queue, asked, &wanted),
+        "offer" => offers(queue, batch(moment, payload), &wanted).expect(rt, "memory"),
+        "back" => takes_back(queue, &wanted),
+        "job" => is_job(queue.take_job(moment).expect(rt, "memory"), &wanted),
+        "leaves" => is(&wanted, "spans", queue.leaving(moment), 0),
+        "ready" => is_ready(queue.ready(), &wanted),
+        "room" => has_room(queue, &wanted),
+        "bytes" => has_bytes_left(queue, &wanted),
+        "lift" => is(&wanted, "was", queue.lift_bound(), 0),
+        "bound" => bounds_again(queue, moment, &wanted),
+        _ => settles(rt, alloc, queue, asked, &wanted),
     }
 }
 
-/// Tells a story to a sender, which is to be empty in the end.
+/// Tells a story to a new sender with these settings, which is to be empty in the end.
 fn tell(
     rt: &impl Abort,
     alloc: Global,
-    mut queue: SendQueue,
+    sending: &SendingQueue,
+    retry: &RetryOnFailure,
     story: &'static str,
-) -> Result<(), AllocError> {
+) {
+    let mut queue = SendQueue::new(alloc, sending, retry).expect(rt, "memory");
     for line in story.lines() {
-        assert!(rt; goes(alloc, &mut queue, line)?, "at {line}");
+        assert!(rt; goes(rt, alloc, &mut queue, line), "at {line}");
     }
     assert!(rt; queue.is_empty());
-    Ok(())
 }
 
 /// One batch at a time, of which one waits.
@@ -217,10 +218,8 @@ answer 2 1000 0 200 - - = taken 2 0
 ready = none";
 
 #[test]
-fn a_batch_is_sent_and_its_consumer_is_free(rt: HostRuntime) -> Result<(), Fail> {
-    let queue = SendQueue::new(rt.alloc(), &ONE, &ENDLESS)?;
-    tell(&rt, rt.alloc(), queue, SENT)?;
-    Ok(())
+fn a_batch_is_sent_and_its_consumer_is_free(rt: HostRuntime) {
+    tell(&rt, rt.alloc(), &ONE, &ENDLESS, SENT);
 }
 
 /// Bytes count while a batch waits to be sent for the first time, and not once it is handed out or taken back.
@@ -251,10 +250,8 @@ bytes 1000 = left 7
 answer 4 41000 0 200 - - = taken 1 0";
 
 #[test]
-fn batches_that_wait_have_so_many_bytes_at_most(rt: HostRuntime) -> Result<(), Fail> {
-    let queue = SendQueue::new(rt.alloc(), &SEVEN_BYTES, &ENDLESS)?;
-    tell(&rt, rt.alloc(), queue, BY_BYTES)?;
-    Ok(())
+fn batches_that_wait_have_so_many_bytes_at_most(rt: HostRuntime) {
+    tell(&rt, rt.alloc(), &SEVEN_BYTES, &ENDLESS, BY_BYTES);
 }
 
 /// Once bytes are no bound, as many batches wait as may.
@@ -277,21 +274,18 @@ answer 3 1000 0 200 - - = taken 2 0
 bytes 1000 = left 4398046511104";
 
 #[test]
-fn a_bound_of_bytes_is_lifted(rt: HostRuntime) -> Result<(), Fail> {
-    let queue = SendQueue::new(rt.alloc(), &SEVEN_BYTES, &ENDLESS)?;
-    tell(&rt, rt.alloc(), queue, NOT_BY_BYTES)?;
-    Ok(())
+fn a_bound_of_bytes_is_lifted(rt: HostRuntime) {
+    tell(&rt, rt.alloc(), &SEVEN_BYTES, &ENDLESS, NOT_BY_BYTES);
 }
 
 #[test]
-fn a_bound_of_bytes_is_put_back(rt: HostRuntime) -> Result<(), Fail> {
-    let mut queue = SendQueue::new(rt.alloc(), &SEVEN_BYTES, &ENDLESS)?;
+fn a_bound_of_bytes_is_put_back(rt: HostRuntime) {
+    let mut queue = SendQueue::new(rt.alloc(), &SEVEN_BYTES, &ENDLESS).expect(&rt, "memory");
     queue.bound_bytes(2);
     assert!(rt; queue.bytes_left() == 2);
-    assert!(rt; queue.offer(batch(1000, "abc")).is_err());
+    assert!(rt; goes(&rt, rt.alloc(), &mut queue, "offer 1000 abc = full 3"));
     queue.lift_bound();
-    assert!(rt; queue.offer(batch(1000, "abc")).is_ok());
-    Ok(())
+    assert!(rt; goes(&rt, rt.alloc(), &mut queue, "offer 1000 abc = taken"));
 }
 
 /// What waits already counts for a bound that is put back, and what was offered meanwhile and taken back doesn't.
@@ -325,10 +319,8 @@ answer 3 1000 0 200 - - = taken 4 0
 bytes 1000 = left 9";
 
 #[test]
-fn a_bound_of_bytes_is_put_back_behind_batches_that_wait(rt: HostRuntime) -> Result<(), Fail> {
-    let queue = SendQueue::new(rt.alloc(), &SEVEN_BYTES, &ENDLESS)?;
-    tell(&rt, rt.alloc(), queue, PUT_BACK)?;
-    Ok(())
+fn a_bound_of_bytes_is_put_back_behind_batches_that_wait(rt: HostRuntime) {
+    tell(&rt, rt.alloc(), &SEVEN_BYTES, &ENDLESS, PUT_BACK);
 }
 
 /// After 40 seconds that were asked for, and after 11,250 milliseconds that the greatest word picks.
@@ -350,10 +342,8 @@ job 41000 = d 3
 answer 3 41000 0 301 - - = refused 1";
 
 #[test]
-fn a_batch_is_given_up_in_the_end(rt: HostRuntime) -> Result<(), Fail> {
-    let queue = SendQueue::new(rt.alloc(), &ONE, &FIFTY_SECONDS)?;
-    tell(&rt, rt.alloc(), queue, GIVEN_UP)?;
-    Ok(())
+fn a_batch_is_given_up_in_the_end(rt: HostRuntime) {
+    tell(&rt, rt.alloc(), &ONE, &FIFTY_SECONDS, GIVEN_UP);
 }
 
 const JUST_IN_TIME: &str = "\
@@ -367,10 +357,8 @@ job 52250 = abc 3
 answer 3 52250 0 200 - five = taken 0 3";
 
 #[test]
-fn a_batch_is_sent_a_third_time_just_in_time(rt: HostRuntime) -> Result<(), Fail> {
-    let queue = SendQueue::new(rt.alloc(), &ONE, &LONG_ENOUGH)?;
-    tell(&rt, rt.alloc(), queue, JUST_IN_TIME)?;
-    Ok(())
+fn a_batch_is_sent_a_third_time_just_in_time(rt: HostRuntime) {
+    tell(&rt, rt.alloc(), &ONE, &LONG_ENOUGH, JUST_IN_TIME);
 }
 
 /// With the least word the first delay is 2,500 and the second 3,750. In the end what was offered last is taken back.
@@ -408,13 +396,9 @@ back = none
 job 2000 = none";
 
 #[test]
-fn retries_go_by_moment_and_ticket_and_the_newest_is_taken_back(
-    rt: HostRuntime,
-) -> Result<(), Fail> {
-    let queue = SendQueue::new(rt.alloc(), &TWO, &ENDLESS)?;
-    tell(&rt, rt.alloc(), queue, IN_ORDER)?;
+fn retries_go_by_moment_and_ticket_and_the_newest_is_taken_back(rt: HostRuntime) {
+    tell(&rt, rt.alloc(), &TWO, &ENDLESS, IN_ORDER);
     offers_are_undone();
-    Ok(())
 }
 
 /// The definitions, on the last tickets, give what was worked out by hand.

@@ -6,9 +6,8 @@ use otlp_trace::DoubleBits;
 use span_view::{
     SpanField, SpanFields, SpanRef, ValueRef, canonical_text_is_viewed, equal_values, is_text,
 };
-use std::alloc::{AllocError, Global};
+use std::alloc::Global;
 use std::process::Abort;
-use std::test::Fail;
 
 /// The span of opentelemetry-proto's example of a trace (examples/trace.json), with a status of code 2 and fields that
 /// no span knows behind it.
@@ -175,12 +174,12 @@ const END: &[u8] = b"\x41\x06\x00\x00\x00\x00\x00\x00\x00";
 const ERROR: &[u8] = b"\x7a\x02\x18\x02";
 
 /// A span of these pieces of text.
-fn joined(alloc: Global, pieces: &[&[u8]]) -> Result<Vec<u8>, AllocError> {
+fn joined(rt: &impl Abort, alloc: Global, pieces: &[&[u8]]) -> Vec<u8> {
     let mut span = Vec::new(alloc);
     for piece in pieces {
-        span.extend_from_slice(piece)?;
+        span.extend_from_slice(piece).expect(rt, "memory");
     }
-    Ok(span)
+    span
 }
 
 /// Whether a span tells these times and this status, by one call for each, by one for both times, and by one for all.
@@ -200,9 +199,9 @@ fn pieces_tell(
     start: u64,
     end: u64,
     status: i32,
-) -> Result<bool, AllocError> {
-    let span = joined(alloc, pieces)?;
-    Ok(tells_each(rt, &span, start, end, status))
+) -> bool {
+    let span = joined(rt, alloc, pieces);
+    tells_each(rt, &span, start, end, status)
 }
 
 /// Pieces, and the start and the end that they tell: the first of several, wherever it stands.
@@ -221,14 +220,13 @@ const TIMES: [(&[&[u8]], u64, u64); 10] = [
 ];
 
 #[test]
-fn times_are_told_together(rt: HostRuntime) -> Result<(), Fail> {
+fn times_are_told_together(rt: HostRuntime) {
     for (pieces, start, end) in TIMES {
         assert!(rt;
-            pieces_tell(&rt, rt.alloc(), pieces, start, end, 0)?,
+            pieces_tell(&rt, rt.alloc(), pieces, start, end, 0),
             "{start} {end}"
         );
     }
-    Ok(())
 }
 
 /// What stands before a start of 5, between it and an end of 6, and behind that; and the status that it tells: the
@@ -249,21 +247,21 @@ const STATUSES: [(&[u8], &[u8], &[u8], i32); 11] = [
 ];
 
 #[test]
-fn times_and_status_are_told_together(rt: HostRuntime) -> Result<(), Fail> {
+fn times_and_status_are_told_together(rt: HostRuntime) {
     for (before, between, behind, status) in STATUSES {
         let pieces = [before, START, between, END, behind];
         assert!(rt;
-            pieces_tell(&rt, rt.alloc(), &pieces, 5, 6, status)?,
+            pieces_tell(&rt, rt.alloc(), &pieces, 5, 6, status),
             "{status}"
         );
     }
-    Ok(())
 }
 
 /// A span with so many letters, at most 128, behind a front, and then a start of 5, an end of 6 and an error.
-fn lettered(alloc: Global, front: &[u8], count: usize) -> Result<Vec<u8>, AllocError> {
+fn lettered(rt: &impl Abort, alloc: Global, front: &[u8], count: usize) -> Vec<u8> {
     let letters = [b'a'; 128];
     joined(
+        rt,
         alloc,
         &[front, &letters[..count.min(128)], START, END, ERROR],
     )
@@ -289,17 +287,16 @@ fn has_key(view: &SpanRef<'_>, count: usize) -> bool {
 }
 
 /// Whether a span has such a key, and what stands behind it.
-fn is_keyed(rt: &impl Abort, alloc: Global, head: &[u8], count: usize) -> Result<bool, AllocError> {
-    let span = lettered(alloc, head, count)?;
-    Ok(tells_each(rt, &span, 5, 6, 2) && has_key(&checked(rt, &span, b""), count))
+fn is_keyed(rt: &impl Abort, alloc: Global, head: &[u8], count: usize) -> bool {
+    let span = lettered(rt, alloc, head, count);
+    tells_each(rt, &span, 5, 6, 2) && has_key(&checked(rt, &span, b""), count)
 }
 
 #[test]
-fn short_and_long_keys_are_told_alike(rt: HostRuntime) -> Result<(), Fail> {
+fn short_and_long_keys_are_told_alike(rt: HostRuntime) {
     for (head, count) in HEADS {
-        assert!(rt; is_keyed(&rt, rt.alloc(), head, count)?, "at {count}");
+        assert!(rt; is_keyed(&rt, rt.alloc(), head, count), "at {count}");
     }
-    Ok(())
 }
 
 /// What stands before a start of 5, an end of 6 and an error: what does so in canonical text, and other fields and
@@ -334,33 +331,27 @@ fn has_times_and_error(view: &SpanRef<'_>, start: u64, end: u64) -> bool {
 }
 
 /// Whether a front and letters are passed over.
-fn is_passed_over(
-    rt: &impl Abort,
-    alloc: Global,
-    front: &[u8],
-    count: usize,
-) -> Result<bool, AllocError> {
-    let span = lettered(alloc, front, count)?;
-    Ok(tells_each(rt, &span, 5, 6, 2) && has_times_and_error(&checked(rt, &span, b""), 5, 6))
+fn is_passed_over(rt: &impl Abort, alloc: Global, front: &[u8], count: usize) -> bool {
+    let span = lettered(rt, alloc, front, count);
+    tells_each(rt, &span, 5, 6, 2) && has_times_and_error(&checked(rt, &span, b""), 5, 6)
 }
 
 /// Whether nothing is told behind a name that is cut short, behind which no field begins.
-fn tells_nothing_behind(rt: &impl Abort, alloc: Global, name: &[u8]) -> Result<bool, AllocError> {
-    let span = lettered(alloc, name, 0)?;
-    Ok(tells_each(rt, &span, 0, 0, 0) && checked(rt, &span, b"").fields().next().is_none())
+fn tells_nothing_behind(rt: &impl Abort, alloc: Global, name: &[u8]) -> bool {
+    let span = lettered(rt, alloc, name, 0);
+    tells_each(rt, &span, 0, 0, 0) && checked(rt, &span, b"").fields().next().is_none()
 }
 
 #[test]
-fn what_stands_before_the_times_is_passed_over(rt: HostRuntime) -> Result<(), Fail> {
+fn what_stands_before_the_times_is_passed_over(rt: HostRuntime) {
     for (front, count) in FRONTS {
         let size = front.len();
         assert!(rt;
-            is_passed_over(&rt, rt.alloc(), front, count)?,
+            is_passed_over(&rt, rt.alloc(), front, count),
             "behind {size} and {count}"
         );
     }
-    assert!(rt; tells_nothing_behind(&rt, rt.alloc(), b"\x2a\x7f")?);
-    Ok(())
+    assert!(rt; tells_nothing_behind(&rt, rt.alloc(), b"\x2a\x7f"));
 }
 
 #[test]
