@@ -6,8 +6,8 @@ ghost use Rattle.machine_hub.specs.Hub.{slots_of};
 use crate::counter::Counter;
 use machine_hub::{Caller, Hub, HubKeeper, LoggedMachine, OptionalLog};
 use std::alloc::Global;
+use std::process::Abort;
 use std::sync::Wait;
-use std::test::Fail;
 use std::thread::{Threads, join};
 
 /// A caller, and the positions of its three calls.
@@ -74,37 +74,40 @@ fn both_call<R: Threads + Wait + Sync>(
 }
 
 /// How many entries the log of the last shard has, once the hub's callers are back and it is closed.
-fn entries_of<R: Wait>(
+fn entries_of<R: Wait + Abort>(
     rt: &R,
     alloc: Global,
     hub: Hub<Counter, OptionalLog<Counter>>,
     keeper: HubKeeper<Counter, OptionalLog<Counter>>,
     one: Caller<Counter, OptionalLog<Counter>>,
     two: Caller<Counter, OptionalLog<Counter>>,
-) -> Option<usize>
+) -> usize
     requires keeper { keeper.slots ≡ hub }
     requires same_hub { (slots_of one ≡ hub) × (slots_of two ≡ hub) }
 {
-    let callers = vec![in alloc; one, two].ok()?;
-    let mut shards = hub.close(rt, keeper, callers).ok()?;
-    let (_counter, log) = shards.pop()?.into_parts();
-    Some(log.kept.len())
+    let callers = vec![in alloc; one, two].expect(rt, "memory");
+    let mut shards = hub
+        .close(rt, keeper, callers)
+        .ok()
+        .expect(rt, "all callers");
+    let shard = shards.pop().expect(rt, "a shard");
+    let (_counter, log) = shard.into_parts();
+    log.kept.len()
 }
 
 /// Six calls of two threads on one shard: how many entries its log has, and the positions of each thread's calls.
-fn two_threads<R: Threads + Wait + Sync>(
+fn two_threads<R: Threads + Wait + Sync + Abort>(
     rt: &R,
     alloc: Global,
-) -> Result<(Option<usize>, [u64; 3], [u64; 3]), Fail> {
-    let machines = vec![in alloc; logged(alloc)]?;
-    let (hub, keeper, mut callers) = Hub::open(rt, alloc, machines, 2)?;
-    let (Some(one), Some(two)) = (callers.pop(), callers.pop()) else {
-        return Err("two callers".into());
-    };
+) -> (usize, [u64; 3], [u64; 3]) {
+    let machines = vec![in alloc; logged(alloc)].expect(rt, "memory");
+    let (hub, keeper, mut callers) = Hub::open(rt, alloc, machines, 2).expect(rt, "memory");
+    let one = callers.pop().expect(rt, "a caller");
+    let two = callers.pop().expect(rt, "another");
     let (one, two) = both_call(rt, alloc, &hub, one, two);
     let (ones, others) = (one.positions, two.positions);
     let entries = entries_of(rt, alloc, hub, keeper, one.caller, two.caller);
-    Ok((entries, ones, others))
+    (entries, ones, others)
 }
 
 /// A bit for each of the first six positions.
@@ -130,10 +133,9 @@ fn rise(positions: [u64; 3]) -> bool {
 
 /// Six calls of two threads are six entries, and nobody's receipts are another's.
 #[test]
-fn each_call_has_its_entry(rt: HostRuntime) -> Result<(), Fail> {
-    let (entries, ones, others) = two_threads(&rt, rt.alloc())?;
-    assert!(rt; entries == Some(6));
+fn each_call_has_its_entry(rt: HostRuntime) {
+    let (entries, ones, others) = two_threads(&rt, rt.alloc());
+    assert!(rt; entries == 6);
     assert!(rt; rise(ones) && rise(others));
     assert_eq!(rt; bits(ones) | bits(others), 63);
-    Ok(())
 }

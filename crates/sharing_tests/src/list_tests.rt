@@ -5,7 +5,6 @@ ghost use Rattle.agreed_list.specs.Agreed.{half_of};
 
 use agreed_list::{AgreedList, Half, More};
 use std::alloc::{AllocError, Global};
-use std::test::Fail;
 
 /// Adds a number.
 struct Adds;
@@ -29,8 +28,7 @@ fn seven_and_five(alloc: Global) -> Result<(AgreedList<u32>, Half<u32>, Half<u32
 
 /// A list is opened, and its halves meet twice.
 #[test]
-fn both_halves_know_what_was_added(rt: HostRuntime) -> Result<(), Fail> {
-    let (list, mut one, mut other) = seven_and_five(rt.alloc())?;
+fn both_halves_know_what_was_added(rt: HostRuntime) {
+    let (list, mut one, mut other) = seven_and_five(rt.alloc()).expect(&rt, "memory");
     list.meet::<u32, Adds>(&mut one, &mut other, &3);
-    Ok(())
 }

@@ -12,7 +12,6 @@ use shared_hub::{Caller, HubKeeper, Receipt, ShardLog, SharedHub};
 use std::alloc::Global;
 use std::process::Abort;
 use std::sync::Wait;
-use std::test::Fail;
 use std::thread::Threads;
 use tail_settings::{Settings, load};
 use tenant_shard::{Outcome, Step};
@@ -135,7 +134,7 @@ fn are_logged(alloc: Global, logs: Vec<ShardLog>, next: &[u64; 2]) -> bool {
 }
 
 /// Closes a hub, whose caller comes back, and looks at its logs.
-fn is_closed<R: Wait>(
+fn is_closed<R: Wait + Abort>(
     rt: &R,
     alloc: Global,
     hub: SharedHub,
@@ -146,9 +145,7 @@ fn is_closed<R: Wait>(
     requires keeper { keeper.slots ≡ hub }
     requires same_hub { slots_of me ≡ hub }
 {
-    let Ok(callers) = vec![in alloc; me] else {
-        return false;
-    };
+    let callers = vec![in alloc; me].expect(rt, "memory");
     match hub.close(rt, keeper, callers) {
         Ok(logs) => are_logged(alloc, logs, next),
         Err(_missing) => false,
@@ -156,47 +153,39 @@ fn is_closed<R: Wait>(
 }
 
 /// Opens a hub, makes the calls of the story, closes it and looks at its logs.
-fn run_story<R: Threads + Wait + Sync>(
+fn run_story<R: Threads + Wait + Sync + Abort>(
     rt: &R,
     alloc: Global,
     settings: &Settings,
     keeps: bool,
-) -> Option<(u32, &'static str, bool)> {
-    let Ok((hub, keeper, mut callers)) = SharedHub::open(rt, alloc, settings, 1, keeps, KEYS) else {
-        return None;
-    };
-    let Some(mut me) = callers.pop() else {
-        return None;
-    };
+) -> (u32, &'static str, bool) {
+    let opened = SharedHub::open(rt, alloc, settings, 1, keeps, KEYS);
+    let (hub, keeper, mut callers) = opened.expect(rt, "memory");
+    let mut me = callers.pop().expect(rt, "a caller");
     let mut next = [0u64; 2];
     let (count, wrong) = follow(rt, alloc, settings, &hub, &mut me, &mut next, keeps);
     let is_well = is_closed(rt, alloc, hub, keeper, me, &next);
-    Some((count, wrong, is_well))
+    (count, wrong, is_well)
 }
 
 /// All calls of the story are told what stands there, and are in the logs.
-fn is_told_whole<R>(rt: &R, alloc: Global, keeps: bool) -> Result<(), Fail>
-where
-    R: Threads + Wait + Sync + Abort,
-{
-    let settings = load(alloc, SETTINGS)?;
-    assert_eq!(rt;
-        run_story(rt, alloc, &settings, keeps),
-        Some((61, "", true))
-    );
-    Ok(())
+fn is_told_whole<R: Threads + Wait + Sync + Abort>(rt: &R, alloc: Global, keeps: bool) {
+    let settings = load(alloc, SETTINGS).expect(rt, "good settings");
+    let (count, wrong, is_well) = run_story(rt, alloc, &settings, keeps);
+    assert_eq!(rt; wrong, "");
+    assert!(rt; count == 61 && is_well);
 }
 
 /// Each call is told what stands in the story, and the logs have each with its outcome, its word and its receipt.
 #[test]
-fn each_call_has_its_entry(rt: HostRuntime) -> Result<(), Fail> {
-    is_told_whole(&rt, rt.alloc(), true)
+fn each_call_has_its_entry(rt: HostRuntime) {
+    is_told_whole(&rt, rt.alloc(), true);
 }
 
 /// Where the logs keep nothing each call is told the same, and has no receipt.
 #[test]
-fn calls_are_told_the_same_without_logs(rt: HostRuntime) -> Result<(), Fail> {
-    is_told_whole(&rt, rt.alloc(), false)
+fn calls_are_told_the_same_without_logs(rt: HostRuntime) {
+    is_told_whole(&rt, rt.alloc(), false);
 }
 
 /// Whether a call is an idle turn, and the first one at shard 1.
@@ -228,19 +217,15 @@ fn is_kept_open<R: Wait>(
 }
 
 /// The same of a new hub.
-fn is_new_kept_open<R: Wait>(rt: &R, alloc: Global, settings: &Settings) -> bool {
-    let Ok((hub, keeper, mut callers)) = SharedHub::open(rt, alloc, settings, 1, true, KEYS) else {
-        return false;
-    };
-    match callers.pop() {
-        Some(mut away) => is_kept_open(rt, alloc, hub, keeper, &mut away),
-        None => false,
-    }
+fn is_new_kept_open<R: Wait + Abort>(rt: &R, alloc: Global, settings: &Settings) -> bool {
+    let opened = SharedHub::open(rt, alloc, settings, 1, true, KEYS);
+    let (hub, keeper, mut callers) = opened.expect(rt, "memory");
+    let mut away = callers.pop().expect(rt, "a caller");
+    is_kept_open(rt, alloc, hub, keeper, &mut away)
 }
 
 #[test]
-fn a_missing_caller_keeps_the_hub_open(rt: HostRuntime) -> Result<(), Fail> {
-    let settings = load(rt.alloc(), SETTINGS)?;
+fn a_missing_caller_keeps_the_hub_open(rt: HostRuntime) {
+    let settings = load(rt.alloc(), SETTINGS).expect(&rt, "good settings");
     assert!(rt; is_new_kept_open(&rt, rt.alloc(), &settings));
-    Ok(())
 }

@@ -1,15 +1,14 @@
 //! Two tenants that draw in turn.
 
 use shard_machine::JitterGenerators;
-use std::test::Fail;
 
 /// Each gets the words of its own seed, whatever the other draws, and a second seed counts for nothing.
 #[test]
-fn each_draws_its_own_words(rt: HostRuntime) -> Result<(), Fail> {
+fn each_draws_its_own_words(rt: HostRuntime) {
     let mut words = JitterGenerators::new(rt.alloc());
-    words.seed(3, 0)?;
-    words.seed(5, 42)?;
-    words.seed(3, 1)?;
+    words.seed(3, 0).expect(&rt, "memory");
+    words.seed(5, 42).expect(&rt, "memory");
+    words.seed(3, 1).expect(&rt, "memory");
     let drawn = [
         words.draw(3),
         words.draw(5),
@@ -29,5 +28,4 @@ fn each_draws_its_own_words(rt: HostRuntime) -> Result<(), Fail> {
         Some(515166382),
     ];
     assert!(rt; drawn == wanted);
-    Ok(())
 }
