@@ -18,7 +18,7 @@ import tempfile
 
 ROOT = pathlib.Path(__file__).resolve().parent.parent
 REFUSED = ("AllocError", "AllocFailed", "OutOfMemory", "out of memory", "Stopped")
-UNEXPECTED = re.compile(r"^[a-z ]+: (AllocError|AllocFailed|OutOfMemory)$", re.M)
+UNEXPECTED = re.compile(r"^[a-z ]+: (AllocError|AllocFailed( \{ \.\. \})?|OutOfMemory)$", re.M)
 MOST = 20_000
 
 
