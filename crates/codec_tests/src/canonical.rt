@@ -14,7 +14,7 @@ use otlp_trace::{
     write_scope, write_span,
 };
 use std::alloc::Global;
-use std::test::Fail;
+use std::process::Abort;
 
 /// Texts that are canonical, a line each: what they are texts of, the room for levels, and the bytes.
 const CANONICAL: &str = "\
@@ -244,85 +244,89 @@ fn laws_of_request(request: &ExportTraceServiceRequest) {
 }
 
 /// What is written of a span that is read.
-fn span_again(alloc: Global, text: &[u8], room: u32) -> Result<Vec<u8>, ReadFault>
+fn span_again(rt: &impl Abort, alloc: Global, text: &[u8], room: u32) -> Result<Vec<u8>, ReadFault>
     requires { room ≤ 101 }
 {
     let span = read_span(alloc, text, room)?;
     laws_of_span(&span);
     let mut out = Vec::new(alloc);
-    write_span(alloc, &mut out, &span)?;
+    write_span(alloc, &mut out, &span).expect(rt, "memory");
     Ok(out)
 }
 
-fn resource_again(alloc: Global, text: &[u8], room: u32) -> Result<Vec<u8>, ReadFault>
+fn resource_again(
+    rt: &impl Abort,
+    alloc: Global,
+    text: &[u8],
+    room: u32,
+) -> Result<Vec<u8>, ReadFault>
     requires { room ≤ 101 }
 {
     let resource = read_resource(alloc, text, room)?;
     laws_of_resource(&resource);
     let mut out = Vec::new(alloc);
-    write_resource(alloc, &mut out, &resource)?;
+    write_resource(alloc, &mut out, &resource).expect(rt, "memory");
     Ok(out)
 }
 
-fn scope_again(alloc: Global, text: &[u8], room: u32) -> Result<Vec<u8>, ReadFault>
+fn scope_again(rt: &impl Abort, alloc: Global, text: &[u8], room: u32) -> Result<Vec<u8>, ReadFault>
     requires { room ≤ 101 }
 {
     let scope = read_scope(alloc, text, room)?;
     laws_of_scope(&scope);
     let mut out = Vec::new(alloc);
-    write_scope(alloc, &mut out, &scope)?;
+    write_scope(alloc, &mut out, &scope).expect(rt, "memory");
     Ok(out)
 }
 
-fn request_again(alloc: Global, text: &[u8]) -> Result<Vec<u8>, ReadFault> {
+fn request_again(rt: &impl Abort, alloc: Global, text: &[u8]) -> Result<Vec<u8>, ReadFault> {
     let request = read_request(alloc, text)?;
     laws_of_request(&request);
     let mut out = Vec::new(alloc);
-    write_request(alloc, &mut out, &request)?;
+    write_request(alloc, &mut out, &request).expect(rt, "memory");
     Ok(out)
 }
 
 /// Whether the text is read, and what is written of it is the text again.
-fn is_again(alloc: Global, kind: Kind, room: u32, text: &[u8]) -> Result<bool, Fail>
+fn is_again(rt: &impl Abort, alloc: Global, kind: Kind, room: u32, text: &[u8]) -> bool
     requires { room ≤ 101 }
 {
     let again = match kind {
-        Kind::Span => span_again(alloc, text, room),
-        Kind::Resource => resource_again(alloc, text, room),
-        Kind::Scope => scope_again(alloc, text, room),
-        Kind::Request => request_again(alloc, text),
+        Kind::Span => span_again(rt, alloc, text, room),
+        Kind::Resource => resource_again(rt, alloc, text, room),
+        Kind::Scope => scope_again(rt, alloc, text, room),
+        Kind::Request => request_again(rt, alloc, text),
     };
     match again {
-        Ok(out) => Ok(out.as_slice() == text),
-        Err(ReadFault::OutOfMemory) => Err("out of memory".into()),
-        Err(_) => Ok(false),
+        Ok(out) => out.as_slice() == text,
+        Err(ReadFault::OutOfMemory) => panic!(rt; "memory: OutOfMemory"),
+        Err(_) => false,
     }
 }
 
 /// Whether a line's text is canonical by both ways, or by neither.
-fn is_so(alloc: Global, line: &str, canonical: bool) -> Result<bool, Fail> {
-    let (kind, room, digits) = words(line).ok_or("a line without three words")?;
+fn is_so(rt: &impl Abort, alloc: Global, line: &str, canonical: bool) -> bool {
+    let (kind, room, digits) = words(rt, line);
     let kind = kind_of(kind);
     let room = room.parse::<u32>().unwrap_or(0).min(100);
-    let text = bytes_of(alloc, digits)?;
-    let again = is_again(alloc, kind, room, text.as_slice())?;
-    Ok(is_canonical(kind, room, text.as_slice()) == canonical && again == canonical)
+    let text = bytes_of(rt, alloc, digits);
+    let again = is_again(rt, alloc, kind, room, text.as_slice());
+    is_canonical(kind, room, text.as_slice()) == canonical && again == canonical
 }
 
 /// The text of each line is so, but for those that say what follows.
-fn all_are_so(alloc: Global, lines: &str, canonical: bool) -> Result<(), Fail> {
+fn all_are_so(rt: &impl Abort, alloc: Global, lines: &str, canonical: bool) {
     for line in lines.lines() {
         if !line.starts_with('#') {
-            ensure(is_so(alloc, line, canonical)?, line)?;
+            ensure(rt, is_so(rt, alloc, line, canonical), line);
         }
     }
-    Ok(())
 }
 
 #[test]
-fn texts_and_their_neighbours(rt: HostRuntime) -> Result<(), Fail> {
-    all_are_so(rt.alloc(), CANONICAL, true)?;
-    all_are_so(rt.alloc(), OTHERS, false)
+fn texts_and_their_neighbours(rt: HostRuntime) {
+    all_are_so(&rt, rt.alloc(), CANONICAL, true);
+    all_are_so(&rt, rt.alloc(), OTHERS, false);
 }
 
 /// The fields of a span, each of them once and not at its default, by rising number.
@@ -361,25 +365,24 @@ fn fronts_end_inside_a_field(rt: HostRuntime) {
 }
 
 /// Whether both ways give one answer, whatever stands at this place.
-fn agree_at(alloc: Global, body: &mut [u8; 59], at: usize) -> Result<bool, Fail>
+fn agree_at(rt: &impl Abort, alloc: Global, body: &mut [u8; 59], at: usize) -> bool
     requires { at < 59 }
 {
     let was = body[at];
     for byte in 0..=255u8 {
         body[at] = byte;
-        if is_request_text(body) != is_again(alloc, Kind::Request, 100, body)? {
-            return Ok(false);
+        if is_request_text(body) != is_again(rt, alloc, Kind::Request, 100, body) {
+            return false;
         }
     }
     body[at] = was;
-    Ok(true)
+    true
 }
 
 #[test]
-fn the_answer_is_that_of_reading_and_writing(rt: HostRuntime) -> Result<(), Fail> {
+fn the_answer_is_that_of_reading_and_writing(rt: HostRuntime) {
     let mut body = BODY;
     for at in 0..59 {
-        assert!(rt; agree_at(rt.alloc(), &mut body, at)?);
+        assert!(rt; agree_at(&rt, rt.alloc(), &mut body, at));
     }
-    Ok(())
 }

@@ -3,7 +3,7 @@
 use crate::texts::{bytes_of, ensure, is_found, words};
 use otlp_canonical::without_defaults;
 use std::alloc::Global;
-use std::test::Fail;
+use std::process::Abort;
 
 /// A name, a span's text, and what it is without its defaults: hexadecimal digits, `-` for no bytes, and `none` where
 /// the text has none or isn't looked at further.
@@ -214,44 +214,49 @@ of_another_type 1a002000 2000\n\
 a_count_of_more_bits 508080808010 none\n";
 
 /// Whether a text is so without its defaults in so much room.
-fn is_without(alloc: Global, text: &[u8], room: u32, wanted: &str) -> Result<bool, Fail> {
-    let found = without_defaults(alloc, text, room)?;
-    is_found(alloc, found, wanted)
+fn is_without(rt: &impl Abort, alloc: Global, text: &[u8], room: u32, wanted: &str) -> bool {
+    let found = without_defaults(alloc, text, room).expect(rt, "memory");
+    is_found(rt, alloc, found, wanted)
 }
 
 /// Whether the line's text is so without its defaults.
-fn is_so(alloc: Global, line: &str) -> Result<bool, Fail> {
-    let (_name, text, wanted) = words(line).ok_or("a line without three words")?;
-    let text = bytes_of(alloc, text)?;
-    is_without(alloc, text.as_slice(), 98, wanted)
+fn is_so(rt: &impl Abort, alloc: Global, line: &str) -> bool {
+    let (_name, text, wanted) = words(rt, line);
+    let text = bytes_of(rt, alloc, text);
+    is_without(rt, alloc, text.as_slice(), 98, wanted)
 }
 
 #[test]
-fn spans_without_their_defaults(rt: HostRuntime) -> Result<(), Fail> {
+fn spans_without_their_defaults(rt: HostRuntime) {
     for line in SPANS.lines() {
         if !line.starts_with('#') {
-            ensure(is_so(rt.alloc(), line)?, line)?;
+            ensure(&rt, is_so(&rt, rt.alloc(), line), line);
         }
     }
-    Ok(())
 }
 
 #[test]
-fn there_has_to_be_room_for_the_span(rt: HostRuntime) -> Result<(), Fail> {
+fn there_has_to_be_room_for_the_span(rt: HostRuntime) {
     // An empty parent, and an attribute whose value is an array: four levels.
     let text = *b"\x22\0\x4a\x04\x12\x02\x2a\0";
     for (room, wanted) in [(0u32, "none"), (3, "none"), (4, "4a0412022a00")] {
-        ensure(is_without(rt.alloc(), &text, room, wanted)?, wanted)?;
+        ensure(
+            &rt,
+            is_without(&rt, rt.alloc(), &text, room, wanted),
+            wanted,
+        );
     }
-    Ok(())
 }
 
 #[test]
-fn there_has_to_be_room_for_an_event(rt: HostRuntime) -> Result<(), Fail> {
+fn there_has_to_be_room_for_an_event(rt: HostRuntime) {
     // A count of 0 in an event: two levels.
     let text = *b"\x5a\x02\x20\0";
     for (room, wanted) in [(0u32, "none"), (1, "none"), (2, "5a00")] {
-        ensure(is_without(rt.alloc(), &text, room, wanted)?, wanted)?;
+        ensure(
+            &rt,
+            is_without(&rt, rt.alloc(), &text, room, wanted),
+            wanted,
+        );
     }
-    Ok(())
 }

@@ -3,7 +3,7 @@
 use bytes::Bytes;
 use otlp_parts::{BodyParts, read_parts};
 use std::alloc::Global;
-use std::test::Fail;
+use std::process::Abort;
 use text_slice::TextSlice;
 
 /// A body of 34 bytes: one span of 28, which is valid and canonical.
@@ -12,19 +12,20 @@ const SPAN: [u8; 34] = *b"\x0a\x20\x12\x1e\x12\x1c\
     \x12\x08\x01\x02\x03\x04\x05\x06\x07\x08";
 
 /// A body of these pieces.
-fn joined(alloc: Global, pieces: &[&[u8]]) -> Result<Bytes, Fail> {
+fn joined(rt: &impl Abort, alloc: Global, pieces: &[&[u8]]) -> Bytes {
     let mut body = Vec::new(alloc);
     for piece in pieces {
-        body.extend_from_slice(piece)?;
+        body.extend_from_slice(piece).expect(rt, "memory");
     }
-    Ok(Bytes::from_vec(body)?)
+    Bytes::from_vec(body).expect(rt, "memory")
 }
 
 /// The body with a field behind it that a request drops, of so many bytes, a hundred at most, and the two of its tag
 /// and length.
-fn with_dropped(alloc: Global, count: u8) -> Result<Bytes, Fail> {
+fn with_dropped(rt: &impl Abort, alloc: Global, count: u8) -> Bytes {
     let dropped = [0x2e_u8; 100];
     joined(
+        rt,
         alloc,
         &[
             &SPAN,
@@ -35,37 +36,39 @@ fn with_dropped(alloc: Global, count: u8) -> Result<Bytes, Fail> {
 }
 
 /// The parts of the body, which alone hold it beside the caller.
-fn read(alloc: Global, body: &Bytes) -> Result<BodyParts, Fail> {
-    let text = TextSlice::of(alloc, body.clone()?)?;
-    Ok(read_parts(alloc, &text)?)
+fn read(rt: &impl Abort, alloc: Global, body: &Bytes) -> BodyParts {
+    let body = body.clone().expect(rt, "memory");
+    let text = TextSlice::of(alloc, body).expect(rt, "memory");
+    read_parts(alloc, &text).expect(rt, "parts of a body")
 }
 
 /// How many bytes of the body's parts are slices of it, which hold it where there are any.
-fn sliced(alloc: Global, body: &Bytes) -> Result<usize, Fail> {
-    let parts = read(alloc, body)?;
-    if body.is_unique() != (parts.sliced == 0) {
-        return Err("the body is held without slices of it, or not held by them".into());
-    }
-    Ok(parts.sliced)
+fn sliced(rt: &impl Abort, alloc: Global, body: &Bytes) -> usize {
+    let parts = read(rt, alloc, body);
+    assert!(rt;
+        body.is_unique() == (parts.sliced == 0),
+        "the body is held without slices of it, or not held by them"
+    );
+    parts.sliced
 }
 
 /// Whether so many bytes of the body's parts are slices of it, and it is let go with its parts.
-fn is_sliced(alloc: Global, body: &Bytes, slices: usize) -> Result<bool, Fail> {
-    Ok(sliced(alloc, body)? == slices && body.is_unique())
+fn is_sliced(rt: &impl Abort, alloc: Global, body: &Bytes, slices: usize) -> bool {
+    sliced(rt, alloc, body) == slices && body.is_unique()
 }
 
 /// The same of the body with a field behind it that is dropped.
-fn is_sliced_before(alloc: Global, dropped: u8, slices: usize) -> Result<bool, Fail> {
-    is_sliced(alloc, &with_dropped(alloc, dropped)?, slices)
+fn is_sliced_before(rt: &impl Abort, alloc: Global, dropped: u8, slices: usize) -> bool {
+    let body = with_dropped(rt, alloc, dropped);
+    is_sliced(rt, alloc, &body, slices)
 }
 
 #[test]
-fn slices_make_up_half_of_what_they_hold(rt: HostRuntime) -> Result<(), Fail> {
+fn slices_make_up_half_of_what_they_hold(rt: HostRuntime) {
     // A span of 28 bytes, in bodies of 36, of 56, of 57 and of 136.
     for (dropped, slices) in [(0u8, 28), (20, 28), (21, 0), (100, 0)] {
-        assert!(rt; is_sliced_before(rt.alloc(), dropped, slices)?);
+        assert!(rt; is_sliced_before(&rt, rt.alloc(), dropped, slices));
     }
-    Ok(())
 }
 
 /// Bodies of a resource, a scope and a span of 60 bytes of text and more, each of which ends in a default that its
@@ -83,16 +86,15 @@ const WRITTEN: [(&[u8], &[u8]); 3] = [
 ];
 
 /// Whether no slice is of a body whose long message has to be written anew, with the span behind it.
-fn is_written_anew(alloc: Global, front: &[u8], back: &[u8]) -> Result<bool, Fail> {
-    let body = joined(alloc, &[front, &[0x2e; 60], back, &SPAN[6..]])?;
-    is_sliced(alloc, &body, 0)
+fn is_written_anew(rt: &impl Abort, alloc: Global, front: &[u8], back: &[u8]) -> bool {
+    let body = joined(rt, alloc, &[front, &[0x2e; 60], back, &SPAN[6..]]);
+    is_sliced(rt, alloc, &body, 0)
 }
 
 /// What is written of a message isn't a slice, however long it is: what is left of slices is less than half.
 #[test]
-fn what_is_written_is_no_slice(rt: HostRuntime) -> Result<(), Fail> {
+fn what_is_written_is_no_slice(rt: HostRuntime) {
     for (front, back) in WRITTEN {
-        assert!(rt; is_written_anew(rt.alloc(), front, back)?);
+        assert!(rt; is_written_anew(&rt, rt.alloc(), front, back));
     }
-    Ok(())
 }

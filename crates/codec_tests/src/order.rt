@@ -3,7 +3,7 @@
 use crate::texts::{bytes_of, ensure, is_found, words};
 use otlp_canonical::{canonical_copy, in_order};
 use std::alloc::Global;
-use std::test::Fail;
+use std::process::Abort;
 
 /// A name, a span's text, and what it is in order: hexadecimal digits, `-` for no bytes, and `none` where the text has
 /// none or isn't looked at further.
@@ -313,43 +313,43 @@ flags_cut 2a016e0a01318501000000 none\n\
 of_no_wire_type 2a016e0a013107 none\n";
 
 /// Whether a text is so in order in so much room.
-fn is_in_order(alloc: Global, text: &[u8], room: u32, wanted: &str) -> Result<bool, Fail> {
-    let found = in_order(alloc, text, room)?;
-    is_found(alloc, found, wanted)
+fn is_in_order(rt: &impl Abort, alloc: Global, text: &[u8], room: u32, wanted: &str) -> bool {
+    let found = in_order(alloc, text, room).expect(rt, "memory");
+    is_found(rt, alloc, found, wanted)
 }
 
 /// Whether a text has this canonical copy.
-fn is_copied(alloc: Global, text: &[u8], wanted: &str) -> Result<bool, Fail> {
-    let found = canonical_copy(alloc, text, 98)?;
-    is_found(alloc, found, wanted)
+fn is_copied(rt: &impl Abort, alloc: Global, text: &[u8], wanted: &str) -> bool {
+    let found = canonical_copy(alloc, text, 98).expect(rt, "memory");
+    is_found(rt, alloc, found, wanted)
 }
 
 /// Whether the line's text is so in order, and its canonical copy with it.
-fn is_so(alloc: Global, line: &str) -> Result<bool, Fail> {
-    let (_name, text, wanted) = words(line).ok_or("a line without three words")?;
-    let text = bytes_of(alloc, text)?;
-    Ok(
-        is_in_order(alloc, text.as_slice(), 98, wanted)?
-            && is_copied(alloc, text.as_slice(), wanted)?,
-    )
+fn is_so(rt: &impl Abort, alloc: Global, line: &str) -> bool {
+    let (_name, text, wanted) = words(rt, line);
+    let text = bytes_of(rt, alloc, text);
+    is_in_order(rt, alloc, text.as_slice(), 98, wanted)
+        && is_copied(rt, alloc, text.as_slice(), wanted)
 }
 
 #[test]
-fn spans_in_order(rt: HostRuntime) -> Result<(), Fail> {
+fn spans_in_order(rt: HostRuntime) {
     for line in SPANS.lines() {
         if !line.starts_with('#') {
-            ensure(is_so(rt.alloc(), line)?, line)?;
+            ensure(&rt, is_so(&rt, rt.alloc(), line), line);
         }
     }
-    Ok(())
 }
 
 #[test]
-fn order_needs_room_for_the_span(rt: HostRuntime) -> Result<(), Fail> {
+fn order_needs_room_for_the_span(rt: HostRuntime) {
     // An attribute whose value is an array, before a trace id: four levels.
     let text = *b"\x4a\x04\x12\x02\x2a\0\x0a\x011";
     for (room, wanted) in [(0u32, "none"), (3, "none"), (4, "0a01314a0412022a00")] {
-        ensure(is_in_order(rt.alloc(), &text, room, wanted)?, wanted)?;
+        ensure(
+            &rt,
+            is_in_order(&rt, rt.alloc(), &text, room, wanted),
+            wanted,
+        );
     }
-    Ok(())
 }

@@ -3,7 +3,7 @@
 use crate::listed::parts_of;
 use crate::texts::{bytes_of, ensure, words};
 use std::alloc::Global;
-use std::test::Fail;
+use std::process::Abort;
 
 /// A name, a body, and its parts as `parts_of` has them. Bytes are hexadecimal digits, `-` for none.
 const BODIES: &str = "\
@@ -101,18 +101,17 @@ a_schema_of_bad_text 0a0812061a01ff12010a fault_6\n\
 a_resource_schema_of_bad_text 0a23121e121c0a1000000000000000000000000000000001120800000000000000011a01ff fault_6";
 
 /// Whether the line's body has these parts.
-fn has_parts(alloc: Global, line: &str) -> Result<bool, Fail> {
-    let (_name, body, wanted) = words(line).ok_or("a line without three words")?;
-    let body = bytes_of(alloc, body)?;
-    let parts = parts_of(alloc, body.as_slice())?;
-    Ok(parts.as_str() == wanted)
+fn has_parts(rt: &impl Abort, alloc: Global, line: &str) -> bool {
+    let (_name, body, wanted) = words(rt, line);
+    let body = bytes_of(rt, alloc, body);
+    let parts = parts_of(rt, alloc, body.as_slice());
+    parts.as_str() == wanted
 }
 
 #[test]
-fn bodies_have_the_parts_that_were_worked_out(rt: HostRuntime) -> Result<(), Fail> {
+fn bodies_have_the_parts_that_were_worked_out(rt: HostRuntime) {
     assert_eq!(rt; BODIES.lines().count(), 30);
     for line in BODIES.lines() {
-        ensure(has_parts(rt.alloc(), line)?, line)?;
+        ensure(&rt, has_parts(&rt, rt.alloc(), line), line);
     }
-    Ok(())
 }

@@ -3,7 +3,7 @@
 use crate::texts::{bytes_of, ensure, is_found, words};
 use otlp_canonical::{resource_copy, scope_copy};
 use std::alloc::Global;
-use std::test::Fail;
+use std::process::Abort;
 
 /// A name, a resource's text, and its canonical text: hexadecimal digits, `-` for no bytes, and `none` where there is
 /// no resource, or where it is left to the reader.
@@ -45,48 +45,45 @@ count_before_two_values_of_which_one_is_a_bool_of_two 20011a090a016b120012021002
 name_cut 0a026e none\n";
 
 /// Whether a resource has this copy in so much room.
-fn is_copied(alloc: Global, text: &[u8], room: u32, wanted: &str) -> Result<bool, Fail> {
-    let found = resource_copy(alloc, text, room)?;
-    is_found(alloc, found, wanted)
+fn is_copied(rt: &impl Abort, alloc: Global, text: &[u8], room: u32, wanted: &str) -> bool {
+    let found = resource_copy(alloc, text, room).expect(rt, "memory");
+    is_found(rt, alloc, found, wanted)
 }
 
 /// Whether the line's resource has that copy.
-fn is_resource(alloc: Global, line: &str) -> Result<bool, Fail> {
-    let (_name, text, wanted) = words(line).ok_or("a line without three words")?;
-    let text = bytes_of(alloc, text)?;
-    is_copied(alloc, text.as_slice(), 99, wanted)
+fn is_resource(rt: &impl Abort, alloc: Global, line: &str) -> bool {
+    let (_name, text, wanted) = words(rt, line);
+    let text = bytes_of(rt, alloc, text);
+    is_copied(rt, alloc, text.as_slice(), 99, wanted)
 }
 
 /// Whether the line's scope has that copy.
-fn is_scope(alloc: Global, line: &str) -> Result<bool, Fail> {
-    let (_name, text, wanted) = words(line).ok_or("a line without three words")?;
-    let text = bytes_of(alloc, text)?;
-    let found = scope_copy(alloc, text.as_slice(), 98)?;
-    is_found(alloc, found, wanted)
+fn is_scope(rt: &impl Abort, alloc: Global, line: &str) -> bool {
+    let (_name, text, wanted) = words(rt, line);
+    let text = bytes_of(rt, alloc, text);
+    let found = scope_copy(alloc, text.as_slice(), 98).expect(rt, "memory");
+    is_found(rt, alloc, found, wanted)
 }
 
 #[test]
-fn resources_by_places(rt: HostRuntime) -> Result<(), Fail> {
+fn resources_by_places(rt: HostRuntime) {
     for line in RESOURCES.lines() {
-        ensure(is_resource(rt.alloc(), line)?, line)?;
+        ensure(&rt, is_resource(&rt, rt.alloc(), line), line);
     }
-    Ok(())
 }
 
 #[test]
-fn scopes_by_places(rt: HostRuntime) -> Result<(), Fail> {
+fn scopes_by_places(rt: HostRuntime) {
     for line in SCOPES.lines() {
-        ensure(is_scope(rt.alloc(), line)?, line)?;
+        ensure(&rt, is_scope(&rt, rt.alloc(), line), line);
     }
-    Ok(())
 }
 
 #[test]
-fn a_copy_needs_room(rt: HostRuntime) -> Result<(), Fail> {
+fn a_copy_needs_room(rt: HostRuntime) {
     // An attribute whose value is an array, behind a count: four levels.
     let text = *b"\x10\x01\x0a\x04\x12\x02\x2a\0";
     for (room, wanted) in [(0u32, "none"), (3, "none"), (4, "0a0412022a001001")] {
-        ensure(is_copied(rt.alloc(), &text, room, wanted)?, wanted)?;
+        ensure(&rt, is_copied(&rt, rt.alloc(), &text, room, wanted), wanted);
     }
-    Ok(())
 }

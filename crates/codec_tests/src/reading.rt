@@ -9,7 +9,7 @@ use otlp_read::{
 };
 use otlp_trace::Span;
 use std::alloc::{AllocError, Global};
-use std::test::Fail;
+use std::process::Abort;
 
 /// What `SPAN` is read to.
 const SPAN_FIELDS: &str = "\
@@ -24,10 +24,10 @@ values: [KeyValue { key: \"\", value: None, unknown: [] }] }, dropped_attributes
 unknown: [] }";
 
 #[test]
-fn each_field_of_a_span(rt: HostRuntime) -> Result<(), Fail> {
-    let span = read_span(rt.alloc(), &SPAN, 98)?;
-    assert_eq!(rt; format!(in rt.alloc(); "{span:?}")?.as_str(), SPAN_FIELDS);
-    Ok(())
+fn each_field_of_a_span(rt: HostRuntime) {
+    let span = read_span(rt.alloc(), &SPAN, 98).expect(&rt, "a span");
+    let told = format!(in rt.alloc(); "{span:?}").expect(&rt, "memory");
+    assert_eq!(rt; told.as_str(), SPAN_FIELDS);
 }
 
 /// A field that isn't known, of which nothing stays, a scope, a span and a schema.
@@ -43,13 +43,10 @@ dropped_attributes_count: 0, events: Repeated { values: [] }, dropped_events_cou
 values: [] }, dropped_links_count: 0, status: None, flags: 0, unknown: [] }] }, schema_url: \"u\" }";
 
 #[test]
-fn each_field_of_scope_spans(rt: HostRuntime) -> Result<(), Fail> {
-    let group = read_scope_spans(rt.alloc(), SCOPE_SPANS, 99)?;
-    assert_eq!(rt;
-        format!(in rt.alloc(); "{group:?}")?.as_str(),
-        SCOPE_SPANS_FIELDS
-    );
-    Ok(())
+fn each_field_of_scope_spans(rt: HostRuntime) {
+    let group = read_scope_spans(rt.alloc(), SCOPE_SPANS, 99).expect(&rt, "scope spans");
+    let told = format!(in rt.alloc(); "{group:?}").expect(&rt, "memory");
+    assert_eq!(rt; told.as_str(), SCOPE_SPANS_FIELDS);
 }
 
 /// A resource in two pieces, a scope spans and a schema.
@@ -63,13 +60,10 @@ unknown: [] }, KeyValue { key: \"\", value: None, unknown: [] }] }, dropped_attr
 }] }, schema_url: \"w\" }";
 
 #[test]
-fn each_field_of_resource_spans(rt: HostRuntime) -> Result<(), Fail> {
-    let group = read_resource_spans(rt.alloc(), RESOURCE_SPANS, 100)?;
-    assert_eq!(rt;
-        format!(in rt.alloc(); "{group:?}")?.as_str(),
-        RESOURCE_SPANS_FIELDS
-    );
-    Ok(())
+fn each_field_of_resource_spans(rt: HostRuntime) {
+    let group = read_resource_spans(rt.alloc(), RESOURCE_SPANS, 100).expect(&rt, "resource spans");
+    let told = format!(in rt.alloc(); "{group:?}").expect(&rt, "memory");
+    assert_eq!(rt; told.as_str(), RESOURCE_SPANS_FIELDS);
 }
 
 /// Resources with one attribute, a line each, and its value, between what stands before it and behind.
@@ -99,23 +93,22 @@ const BEFORE: &str =
 const BEHIND: &str = "] }), unknown: [] }] }, dropped_attributes_count: 0, unknown: [] }";
 
 /// Whether a line's value is read so.
-fn is_read_so(alloc: Global, line: &str) -> Result<bool, Fail> {
-    let (digits, wanted) = line.split_once(' ').ok_or("a line without two words")?;
-    let text = bytes_of(alloc, digits)?;
-    let resource = read_resource(alloc, text.as_slice(), 99)?;
-    let told = format!(in alloc; "{resource:?}")?;
-    let wanted = format!(in alloc; "{BEFORE}{wanted}{BEHIND}")?;
-    Ok(told.as_str() == wanted.as_str())
+fn is_read_so(rt: &impl Abort, alloc: Global, line: &str) -> bool {
+    let (digits, wanted) = line.split_once(' ').expect(rt, "a line of two words");
+    let text = bytes_of(rt, alloc, digits);
+    let resource = read_resource(alloc, text.as_slice(), 99).expect(rt, "a resource");
+    let told = format!(in alloc; "{resource:?}").expect(rt, "memory");
+    let wanted = format!(in alloc; "{BEFORE}{wanted}{BEHIND}").expect(rt, "memory");
+    told.as_str() == wanted.as_str()
 }
 
 #[test]
-fn values_of_attributes(rt: HostRuntime) -> Result<(), Fail> {
+fn values_of_attributes(rt: HostRuntime) {
     for line in VALUES.lines() {
         if !line.starts_with('#') {
-            ensure(is_read_so(rt.alloc(), line)?, line)?;
+            ensure(&rt, is_read_so(&rt, rt.alloc(), line), line);
         }
     }
-    Ok(())
 }
 
 /// 4 KB of unknown fields: the number 129 in the field 99, 1,024 times.
@@ -128,16 +121,15 @@ fn many(alloc: Global) -> Result<Vec<u8>, AllocError> {
 }
 
 /// Whether a span keeps the fields of a text as unknown ones.
-fn is_unknown(alloc: Global, text: &[u8]) -> Result<bool, Fail> {
-    let span = read_span(alloc, text, 98)?;
-    Ok(text.len() == 4096 && span.unknown.as_slice() == text)
+fn is_unknown(rt: &impl Abort, alloc: Global, text: &[u8]) -> bool {
+    let span = read_span(alloc, text, 98).expect(rt, "a span");
+    text.len() == 4096 && span.unknown.as_slice() == text
 }
 
 #[test]
-fn many_unknown_fields(rt: HostRuntime) -> Result<(), Fail> {
-    let many = many(rt.alloc())?;
-    assert!(rt; is_unknown(rt.alloc(), many.as_slice())?);
-    Ok(())
+fn many_unknown_fields(rt: HostRuntime) {
+    let many = many(rt.alloc()).expect(&rt, "memory");
+    assert!(rt; is_unknown(&rt, rt.alloc(), many.as_slice()));
 }
 
 /// What a reply's body is read as.

@@ -1,36 +1,36 @@
 //! Lines of tables, and the bytes in them.
 
 use std::alloc::Global;
-use std::test::Fail;
+use std::process::Abort;
 
 /// A line's three words.
-pub fn words(line: &str) -> Option<(&str, &str, &str)> {
-    let (first, rest) = line.split_once(' ')?;
-    let (second, third) = rest.split_once(' ')?;
-    Some((first, second, third))
+pub fn words<'a>(rt: &impl Abort, line: &'a str) -> (&'a str, &'a str, &'a str) {
+    let (first, rest) = line.split_once(' ').expect(rt, "a line of three words");
+    let (second, third) = rest.split_once(' ').expect(rt, "a line of three words");
+    (first, second, third)
 }
 
 /// The bytes that these digits spell, none for `-`.
-pub fn bytes_of(alloc: Global, digits: &str) -> Result<Vec<u8>, Fail> {
+pub fn bytes_of(rt: &impl Abort, alloc: Global, digits: &str) -> Vec<u8> {
     if digits == "-" {
-        return Ok(Vec::new(alloc));
+        return Vec::new(alloc);
     }
-    Ok(hex::decode(alloc, digits)?)
+    hex::decode(alloc, digits).expect(rt, "hexadecimal digits")
 }
 
-/// No error where this holds, and else the line as the error.
-pub fn ensure(holds: bool, line: &str) -> Result<(), Fail> {
-    if holds { Ok(()) } else { Err(Fail::new(line)) }
+/// Ends the test with the line where this doesn't hold.
+pub fn ensure(rt: &impl Abort, holds: bool, line: &str) {
+    assert!(rt; holds, "{line}");
 }
 
 /// Whether this was found: a text, or none for `none`.
-pub fn is_found(alloc: Global, found: Option<Vec<u8>>, wanted: &str) -> Result<bool, Fail> {
+pub fn is_found(rt: &impl Abort, alloc: Global, found: Option<Vec<u8>>, wanted: &str) -> bool {
     match found {
-        None => Ok(wanted == "none"),
-        Some(_) if wanted == "none" => Ok(false),
+        None => wanted == "none",
+        Some(_) if wanted == "none" => false,
         Some(copy) => {
-            let wanted = bytes_of(alloc, wanted)?;
-            Ok(copy.as_slice() == wanted.as_slice())
+            let wanted = bytes_of(rt, alloc, wanted);
+            copy.as_slice() == wanted.as_slice()
         }
     }
 }

@@ -3,7 +3,7 @@
 use crate::texts::{bytes_of, ensure};
 use pb_wire::{Field, Value, WireFault, WireType, next_field, put_bytes, put_tag, put_varint};
 use std::alloc::{AllocError, Global};
-use std::test::Fail;
+use std::process::Abort;
 
 /// Texts, a line each, and what is read of them from left to right: each field's number and value, and the number of
 /// the fault that comes then and what it says.
@@ -71,43 +71,46 @@ fn told(alloc: Global, text: &[u8]) -> Result<String, AllocError> {
 }
 
 /// Whether a text is read so.
-fn is_told(alloc: Global, text: &[u8], wanted: &str) -> Result<bool, AllocError> {
-    Ok(told(alloc, text)?.as_str() == wanted)
+fn is_told(rt: &impl Abort, alloc: Global, text: &[u8], wanted: &str) -> bool {
+    let told = told(alloc, text).expect(rt, "memory");
+    told.as_str() == wanted
 }
 
 /// Whether a line's text is read so.
-fn is_read_so(alloc: Global, line: &str) -> Result<bool, Fail> {
-    let (digits, wanted) = line.split_once(' ').ok_or("a line without two words")?;
-    let text = bytes_of(alloc, digits)?;
-    Ok(is_told(alloc, text.as_slice(), wanted)?)
+fn is_read_so(rt: &impl Abort, alloc: Global, line: &str) -> bool {
+    let (digits, wanted) = line.split_once(' ').expect(rt, "a line of two words");
+    let text = bytes_of(rt, alloc, digits);
+    is_told(rt, alloc, text.as_slice(), wanted)
 }
 
 #[test]
-fn texts_are_read_field_by_field(rt: HostRuntime) -> Result<(), Fail> {
+fn texts_are_read_field_by_field(rt: HostRuntime) {
     for line in TEXTS.lines() {
         if !line.starts_with('#') {
-            ensure(is_read_so(rt.alloc(), line)?, line)?;
+            ensure(&rt, is_read_so(&rt, rt.alloc(), line), line);
         }
     }
-    Ok(())
+}
+
+/// Appends the tag of field 20 with this type so many times.
+fn put_tags(rt: &impl Abort, out: &mut Vec<u8>, wire_type: WireType, count: usize) {
+    for _ in 0..count {
+        put_tag(out, 20, wire_type).expect(rt, "memory");
+    }
 }
 
 /// Field 20 as a group, opened and closed so many times.
-fn nested(alloc: Global, levels: usize) -> Result<Vec<u8>, AllocError> {
+fn nested(rt: &impl Abort, alloc: Global, levels: usize) -> Vec<u8> {
     let mut text = Vec::new(alloc);
-    for _ in 0..levels {
-        put_tag(&mut text, 20, WireType::GroupStart)?;
-    }
-    for _ in 0..levels {
-        put_tag(&mut text, 20, WireType::GroupEnd)?;
-    }
-    Ok(text)
+    put_tags(rt, &mut text, WireType::GroupStart, levels);
+    put_tags(rt, &mut text, WireType::GroupEnd, levels);
+    text
 }
 
 /// Whether so many groups, one in another, are nested too deep where they stand so many levels down.
-fn are_too_deep(alloc: Global, groups: usize, levels: u32) -> Result<bool, AllocError> {
-    let text = nested(alloc, groups)?;
-    Ok(next_field(&text, levels) == Err(WireFault::TooDeep))
+fn are_too_deep(rt: &impl Abort, alloc: Global, groups: usize, levels: u32) -> bool {
+    let text = nested(rt, alloc, groups);
+    next_field(&text, levels) == Err(WireFault::TooDeep)
 }
 
 /// Whether the text is field 20, a group of these bytes, and nothing else.
@@ -120,46 +123,44 @@ fn is_group(text: &[u8], inside: &[u8]) -> bool {
 }
 
 /// Whether a hundred groups are one in another.
-fn are_nested(alloc: Global) -> Result<bool, AllocError> {
-    let sound = nested(alloc, 100)?;
-    Ok(sound.len() == 400 && is_group(&sound, &sound[2..398]))
+fn are_nested(rt: &impl Abort, alloc: Global) -> bool {
+    let sound = nested(rt, alloc, 100);
+    sound.len() == 400 && is_group(&sound, &sound[2..398])
 }
 
 /// Whether it is told of one more that they are nested too deep.
-fn is_one_too_deep(alloc: Global) -> Result<bool, AllocError> {
-    let deep = nested(alloc, 101)?;
-    is_told(alloc, &deep, "5: nested deeper than 100 levels")
+fn is_one_too_deep(rt: &impl Abort, alloc: Global) -> bool {
+    let deep = nested(rt, alloc, 101);
+    is_told(rt, alloc, &deep, "5: nested deeper than 100 levels")
 }
 
 #[test]
-fn a_hundred_groups_nest_and_no_more(rt: HostRuntime) -> Result<(), Fail> {
-    assert!(rt; are_nested(rt.alloc())? && is_one_too_deep(rt.alloc())?);
-    assert!(rt; are_too_deep(rt.alloc(), 100, 1)? && are_too_deep(rt.alloc(), 10_000, 0)?);
-    Ok(())
+fn a_hundred_groups_nest_and_no_more(rt: HostRuntime) {
+    let alloc = rt.alloc();
+    assert!(rt; are_nested(&rt, alloc) && is_one_too_deep(&rt, alloc));
+    assert!(rt; are_too_deep(&rt, alloc, 100, 1) && are_too_deep(&rt, alloc, 10_000, 0));
 }
 
 /// Appends a number, a text and an empty text.
-fn put_examples(out: &mut Vec<u8>) -> Result<(), AllocError> {
-    put_tag(out, 1, WireType::Varint)?;
-    put_varint(out, 150)?;
-    put_tag(out, 2, WireType::Bytes)?;
-    put_bytes(out, b"testing")?;
-    put_tag(out, 3, WireType::Bytes)?;
-    put_bytes(out, b"")
+fn put_examples(rt: &impl Abort, out: &mut Vec<u8>) {
+    put_tag(out, 1, WireType::Varint).expect(rt, "memory");
+    put_varint(out, 150).expect(rt, "memory");
+    put_tag(out, 2, WireType::Bytes).expect(rt, "memory");
+    put_bytes(out, b"testing").expect(rt, "memory");
+    put_tag(out, 3, WireType::Bytes).expect(rt, "memory");
+    put_bytes(out, b"").expect(rt, "memory");
 }
 
 #[test]
-fn the_encoding_guides_examples_are_written(rt: HostRuntime) -> Result<(), Fail> {
+fn the_encoding_guides_examples_are_written(rt: HostRuntime) {
     let mut out = Vec::new(rt.alloc());
-    put_examples(&mut out)?;
+    put_examples(&rt, &mut out);
     assert!(rt; out.as_slice() == b"\x08\x96\x01\x12\x07testing\x1a\x00".as_slice());
-    Ok(())
 }
 
 #[test]
-fn long_bytes_have_a_long_length(rt: HostRuntime) -> Result<(), Fail> {
+fn long_bytes_have_a_long_length(rt: HostRuntime) {
     let mut out = Vec::new(rt.alloc());
-    put_bytes(&mut out, &[7; 300])?;
+    put_bytes(&mut out, &[7; 300]).expect(&rt, "memory");
     assert!(rt; out.len() == 302 && &out[..3] == b"\xac\x02\x07".as_slice());
-    Ok(())
 }
