@@ -9,7 +9,7 @@ use http_edge::{EdgeFault, read_answer, write_post};
 use http_line::{Line, MemoryLine};
 use send_retry::Answer;
 use std::alloc::{AllocError, Global};
-use std::test::Fail;
+use std::process::Abort;
 
 /// The post of `abc` to `h:1`.
 const POST: &[u8] =
@@ -40,23 +40,22 @@ struct Case {
     body: Vec<u8>,
 }
 
-fn case_of(alloc: Global, names: &[Name], line: &'static str) -> Result<Option<Case>, AllocError> {
+/// The case that a line says, none where it says none.
+fn case_of(rt: &impl Abort, alloc: Global, names: &[Name], line: &'static str) -> Option<Case> {
     let (parts, is_closed) = match line.split_once(" => ") {
         Some(parts) => (Some(parts), true),
         None => (line.split_once(" -> "), false),
     };
-    let Some((input, told)) = parts else {
-        return Ok(None);
-    };
+    let (input, told) = parts?;
     let (head, body) = told.rsplit_once(' ').unwrap_or((told, ""));
-    let input = unfolded(alloc, names, input)?;
-    let body = unfolded(alloc, names, body)?;
-    Ok(Some(Case {
+    let input = unfolded(alloc, names, input).expect(rt, "memory");
+    let body = unfolded(alloc, names, body).expect(rt, "memory");
+    Some(Case {
         input,
         is_closed,
         head,
         body,
-    }))
+    })
 }
 
 fn is(answer: &Answer, case: &Case) -> bool {
@@ -84,84 +83,87 @@ fn has_failed(answer: &Answer) -> bool {
 /// Posts over a line with this input in pieces of these lengths, whose call number `fuse` fails. The answer, and
 /// whether the post was written whole.
 fn posted(
+    rt: &impl Abort,
     alloc: Global,
     input: &[u8],
     pieces: Vec<usize>,
     fuse: u64,
-) -> Result<(Answer, bool), AllocError> {
-    let input = Vec::from_slice(alloc, input)?;
+) -> (Answer, bool) {
+    let input = Vec::from_slice(alloc, input).expect(rt, "memory");
     let mut line = MemoryLine::new(input, pieces, Vec::new(alloc), fuse);
     let answer = post_over(alloc, &mut line, "h:1", b"abc");
-    Ok((answer, line.output() == POST))
+    (answer, line.output() == POST)
 }
 
 /// Goes through the cases of a text, a line each, up to the first that isn't as it has to be. How many were, and that
 /// one.
-fn walk(alloc: Global, lines: &'static str, way: Way) -> Result<(u32, &'static str), AllocError> {
-    let names = names_of(alloc, NAMES)?;
+fn walk(rt: &impl Abort, alloc: Global, lines: &'static str, way: Way) -> (u32, &'static str) {
+    let names = names_of(alloc, NAMES).expect(rt, "memory");
     let mut count = 0u32;
     for line in lines.lines() {
-        if let Some(case) = case_of(alloc, &names, line)? {
-            if !is_told(alloc, &case, way)? {
-                return Ok((count, line));
+        if let Some(case) = case_of(rt, alloc, &names, line) {
+            if !is_told(rt, alloc, &case, way) {
+                return (count, line);
             }
             count = count.saturating_add(1);
         }
     }
-    Ok((count, ""))
+    (count, "")
 }
 
-fn is_told(alloc: Global, case: &Case, way: Way) -> Result<bool, AllocError> {
+fn is_told(rt: &impl Abort, alloc: Global, case: &Case, way: Way) -> bool {
     match way {
-        Way::Cut => Ok(is_told_cut(alloc, case)? && fails_early(alloc, case)?),
-        Way::Long => is_told_in(alloc, case, Vec::new(alloc)),
-        Way::Failing => breaks_off(alloc, case),
-        Way::Refused => is_told_or_refused(alloc, case),
+        Way::Cut => is_told_cut(rt, alloc, case) && fails_early(rt, alloc, case),
+        Way::Long => is_told_in(rt, alloc, case, Vec::new(alloc)),
+        Way::Failing => breaks_off(rt, alloc, case),
+        Way::Refused => is_told_or_refused(alloc, case).expect(rt, "memory"),
     }
 }
 
-fn is_told_in(alloc: Global, case: &Case, pieces: Vec<usize>) -> Result<bool, AllocError> {
-    let (answer, is_whole) = posted(alloc, &case.input, pieces, 0)?;
-    Ok(is_whole && is(&answer, case))
+fn is_told_in(rt: &impl Abort, alloc: Global, case: &Case, pieces: Vec<usize>) -> bool {
+    let (answer, is_whole) = posted(rt, alloc, &case.input, pieces, 0);
+    is_whole && is(&answer, case)
 }
 
-fn is_told_cut(alloc: Global, case: &Case) -> Result<bool, AllocError> {
+fn is_told_cut(rt: &impl Abort, alloc: Global, case: &Case) -> bool {
     for cut in 0..=case.input.len() {
-        if !is_told_in(alloc, case, Vec::from_slice(alloc, &[cut])?)? {
-            return Ok(false);
+        let pieces = Vec::from_slice(alloc, &[cut]).expect(rt, "memory");
+        if !is_told_in(rt, alloc, case, pieces) {
+            return false;
         }
     }
-    is_told_in(alloc, case, vec![in alloc; 1usize; case.input.len()]?)
+    let single = vec![in alloc; 1usize; case.input.len()].expect(rt, "memory");
+    is_told_in(rt, alloc, case, single)
 }
 
 /// Whether there is no answer where the input ends before its last byte.
-fn fails_early(alloc: Global, case: &Case) -> Result<bool, AllocError> {
+fn fails_early(rt: &impl Abort, alloc: Global, case: &Case) -> bool {
     if !case.is_closed {
-        return Ok(true);
+        return true;
     }
     for end in 0..case.input.len() {
-        let (answer, is_whole) = posted(alloc, &case.input[..end], Vec::new(alloc), 0)?;
+        let (answer, is_whole) = posted(rt, alloc, &case.input[..end], Vec::new(alloc), 0);
         if !is_whole || !has_failed(&answer) {
-            return Ok(false);
+            return false;
         }
     }
-    Ok(true)
+    true
 }
 
 /// Whether there is no answer where the line's first call fails, its second and so on, up to the first line that
 /// doesn't fail. Two calls write the post.
-fn breaks_off(alloc: Global, case: &Case) -> Result<bool, AllocError> {
+fn breaks_off(rt: &impl Abort, alloc: Global, case: &Case) -> bool {
     for fuse in 1..1000u64 {
-        let mut line = failing_line(alloc, &case.input, 4, fuse)?;
+        let mut line = failing_line(rt, alloc, &case.input, 4, fuse);
         let answer = post_over(alloc, &mut line, "h:1", b"abc");
         if line.failures() == 0 {
-            return Ok(fuse > 3 && line.output() == POST && is(&answer, case));
+            return fuse > 3 && line.output() == POST && is(&answer, case);
         }
         if !has_failed(&answer) || !POST.starts_with(line.output()) {
-            return Ok(false);
+            return false;
         }
     }
-    Ok(false)
+    false
 }
 
 /// Where memory is refused there may be no answer, and no other one.
@@ -173,32 +175,31 @@ fn is_told_or_refused(alloc: Global, case: &Case) -> Result<bool, AllocError> {
 }
 
 #[test]
-fn answers_cut_at_each_byte(rt: HostRuntime) -> Result<(), Fail> {
-    are_all(&rt, walk(rt.alloc(), ANSWERS, Way::Cut), 63)
+fn answers_cut_at_each_byte(rt: HostRuntime) {
+    are_all(&rt, walk(&rt, rt.alloc(), ANSWERS, Way::Cut), 63);
 }
 
 #[test]
-fn long_answers(rt: HostRuntime) -> Result<(), Fail> {
-    are_all(&rt, walk(rt.alloc(), LONG_ANSWERS, Way::Long), 4)
+fn long_answers(rt: HostRuntime) {
+    are_all(&rt, walk(&rt, rt.alloc(), LONG_ANSWERS, Way::Long), 4);
 }
 
 #[test]
-fn answers_that_break_off(rt: HostRuntime) -> Result<(), Fail> {
-    are_all(&rt, walk(rt.alloc(), ANSWERS, Way::Failing), 63)
+fn answers_that_break_off(rt: HostRuntime) {
+    are_all(&rt, walk(&rt, rt.alloc(), ANSWERS, Way::Failing), 63);
 }
 
 #[test]
-fn answers_with_or_without_memory(rt: HostRuntime) -> Result<(), Fail> {
-    are_all(&rt, walk(rt.alloc(), ANSWERS, Way::Refused), 63)
+fn answers_with_or_without_memory(rt: HostRuntime) {
+    are_all(&rt, walk(&rt, rt.alloc(), ANSWERS, Way::Refused), 63);
 }
 
 /// Which fault it is where a write or a read fails.
 #[test]
-fn faults_of_lines(rt: HostRuntime) -> Result<(), Fail> {
+fn faults_of_lines(rt: HostRuntime) {
     let alloc = rt.alloc();
     let mut line = MemoryLine::new(Vec::new(alloc), Vec::new(alloc), Vec::new(alloc), 2);
     assert!(rt; write_post(alloc, &mut line, "h:1", b"abc") == Err(EdgeFault::WriteFailed));
     let mut line = MemoryLine::new(Vec::new(alloc), Vec::new(alloc), Vec::new(alloc), 1);
     assert!(rt; matches!(read_answer(alloc, &mut line), Err(EdgeFault::ReadFailed)));
-    Ok(())
 }

@@ -4,12 +4,13 @@ use bytes::Bytes;
 use export_edge::{AddressList, BackEnd, TcpBackEnd};
 use job_lane::Job;
 use send_retry::Answer;
+use std::alloc::Global;
 use std::cell::Cell;
 use std::io;
 use std::io::{ErrorKind, Read, Write};
 use std::net::{Net, OpenListener, OpenStream, SocketAddr};
 use std::os::fd::{AsRawFd, RawFd};
-use std::test::Fail;
+use std::process::Abort;
 use std::time::{Clock, Duration};
 
 /// So many bytes come at most.
@@ -191,9 +192,8 @@ impl AsRawFd for Nobody<'_> {
 }
 
 /// Whether a job without a payload is answered, with this limit.
-fn is_answered(rt: &HostRuntime, course: &Course, limit: Option<Duration>) -> Result<bool, Fail> {
-    let alloc = rt.alloc();
-    let host = [String::from_str(alloc, "h:1")?];
+fn is_answered(rt: &impl Abort, alloc: Global, course: &Course, limit: Option<Duration>) -> bool {
+    let host = [String::from_str(alloc, "h:1").expect(rt, "memory")];
     let ether = Ether { course };
     let mut back_end = TcpBackEnd::new(&ether, alloc, AddressList::new(&host), limit);
     let job = Job {
@@ -201,37 +201,45 @@ fn is_answered(rt: &HostRuntime, course: &Course, limit: Option<Duration>) -> Re
         ticket: 1,
         payload: Bytes::new(),
     };
-    Ok(match back_end.post(&job) {
+    match back_end.post(&job) {
         Answer::Http { .. } => true,
         Answer::Failed => false,
-    })
-}
-
-/// A byte of each comes well within the limit, and all of them don't.
-#[test]
-fn a_limit_is_a_whole_attempts(rt: HostRuntime) -> Result<(), Fail> {
-    for (goes, comes) in [(300, 0), (0, 300), (1, 7), (3, 300), (1_500, 0), (0, 1_500)] {
-        let course = Course::new(goes, comes, 1);
-        assert!(rt; !is_answered(&rt, &course, Some(Duration::from_secs(1)))?);
-        assert_eq!(rt; course.now.get(), 1_000);
     }
-    Ok(())
+}
+
+/// Where a byte takes so long to go, and so long to come, an attempt isn't answered, and ends at its limit of a second.
+fn assert_ends(rt: &impl Abort, alloc: Global, goes: u64, comes: u64) {
+    let course = Course::new(goes, comes, 1);
+    let limit = Some(Duration::from_secs(1));
+    assert!(rt; !is_answered(rt, alloc, &course, limit));
+    assert_eq!(rt; course.now.get(), 1_000);
+}
+
+/// A byte of each comes well within the limit, and all of them don't; and then a byte alone doesn't.
+#[test]
+fn a_limit_is_a_whole_attempts(rt: HostRuntime) {
+    let alloc = rt.alloc();
+    assert_ends(&rt, alloc, 300, 0);
+    assert_ends(&rt, alloc, 0, 300);
+    assert_ends(&rt, alloc, 1, 7);
+    assert_ends(&rt, alloc, 3, 300);
+    assert_ends(&rt, alloc, 1_500, 0);
+    assert_ends(&rt, alloc, 0, 1_500);
 }
 
 #[test]
-fn without_a_limit_none_is_set(rt: HostRuntime) -> Result<(), Fail> {
+fn without_a_limit_none_is_set(rt: HostRuntime) {
     let course = Course::new(300, 300, 1);
-    assert!(rt; is_answered(&rt, &course, None)?);
+    assert!(rt; is_answered(&rt, rt.alloc(), &course, None));
     assert_eq!(rt; course.limits.get(), 0);
-    Ok(())
 }
 
 /// Two take a third of a limit of nine hundred milliseconds each, and then the last one has time for an answer.
 #[test]
-fn addresses_share_what_is_left(rt: HostRuntime) -> Result<(), Fail> {
+fn addresses_share_what_is_left(rt: HostRuntime) {
     let course = Course::new(0, 0, 3);
-    assert!(rt; is_answered(&rt, &course, Some(Duration::from_millis(900)))?);
+    let limit = Some(Duration::from_millis(900));
+    assert!(rt; is_answered(&rt, rt.alloc(), &course, limit));
     assert_eq!(rt; course.tried.get(), 3);
     assert_eq!(rt; course.now.get(), 600);
-    Ok(())
 }

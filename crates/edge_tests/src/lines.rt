@@ -5,7 +5,6 @@ use std::alloc::{AllocError, Global};
 use std::collections::VecDeque;
 use std::io;
 use std::io::{ErrorKind, Read, Write};
-use std::test::Fail;
 
 /// Whether a read gives so many bytes, and the room begins with these then.
 fn reads<L: Line>(line: &mut L, room: &mut [u8], count: usize, bytes: &[u8]) -> bool {
@@ -154,8 +153,8 @@ fn line_in_pieces(alloc: Global) -> Result<MemoryLine, AllocError> {
 }
 
 #[test]
-fn a_line_in_memory_is_cut_and_fails_where_it_is_told(rt: HostRuntime) -> Result<(), Fail> {
-    let mut line = line_in_pieces(rt.alloc())?;
+fn a_line_in_memory_is_cut_and_fails_where_it_is_told(rt: HostRuntime) {
+    let mut line = line_in_pieces(rt.alloc()).expect(&rt, "memory");
     let mut room = [0u8; 9];
     let calls = [
         reads(&mut line, &mut room, 2, b"ab"),
@@ -169,5 +168,4 @@ fn a_line_in_memory_is_cut_and_fails_where_it_is_told(rt: HostRuntime) -> Result
         line.output() == b"xy".as_slice(),
     ];
     assert!(rt; calls == [true; 9]);
-    Ok(())
 }

@@ -13,7 +13,6 @@ use http_edge::{
 use http_line::{Line, MemoryLine};
 use std::alloc::{AllocError, Global};
 use std::process::Abort;
-use std::test::Fail;
 use std::thread::Threads;
 use tail_settings::{Settings, load};
 
@@ -29,89 +28,89 @@ tail_sampling = { policy = [{ type = \"always_sample\" }] }
 ";
 
 /// How many talks with the echo are as they have to be, and the first that isn't.
-fn echoed<R: Threads + Sync>(
+fn echoed<R: Threads + Sync + Abort>(
     rt: &R,
     alloc: Global,
     talks: &'static str,
     way: Way,
-) -> Result<(u32, &'static str), AllocError> {
-    let names = names_of(alloc, NAMES)?;
+) -> (u32, &'static str) {
+    let names = names_of(alloc, NAMES).expect(rt, "memory");
     walk(rt, alloc, &mut Echo, &names, talks, way)
 }
 
 /// How many talks at a port whose refusals are JSON are as they have to be, and the first that isn't.
-fn echoed_in_json<R: Threads + Sync>(
+fn echoed_in_json<R: Threads + Sync + Abort>(
     rt: &R,
     alloc: Global,
     way: Way,
-) -> Result<(u32, &'static str), AllocError> {
-    let names = names_of(alloc, NAMES)?;
+) -> (u32, &'static str) {
+    let names = names_of(alloc, NAMES).expect(rt, "memory");
     walk(rt, alloc, &mut JsonEcho, &names, JSON_TALKS, way)
 }
 
 /// How many connections to a front are as they have to be, and the first that isn't.
-fn routed<R: Threads + Sync>(
+fn routed<R: Threads + Sync + Abort>(
     rt: &R,
     alloc: Global,
     settings: &Settings,
     way: Way,
-) -> Result<(u32, &'static str), AllocError> {
-    let names = names_of(alloc, NAMES)?;
+) -> (u32, &'static str) {
+    let names = names_of(alloc, NAMES).expect(rt, "memory");
     let mut front = Front { alloc, settings };
     walk(rt, alloc, &mut front, &names, CONNECTIONS, way)
 }
 
 /// All connections to a front with two tenants are as they have to be.
-fn are_routed<R: Threads + Sync + Abort>(rt: &R, alloc: Global, way: Way) -> Result<(), Fail> {
-    let settings = load(alloc, SETTINGS)?;
-    are_all(rt, routed(rt, alloc, &settings, way), 83)
+fn are_routed<R: Threads + Sync + Abort>(rt: &R, alloc: Global, way: Way) {
+    let settings = load(alloc, SETTINGS).expect(rt, "good settings");
+    are_all(rt, routed(rt, alloc, &settings, way), 83);
 }
 
 #[test]
-fn talks_cut_at_each_byte(rt: HostRuntime) -> Result<(), Fail> {
-    are_all(&rt, echoed(&rt, rt.alloc(), TALKS, Way::Cut), 217)
+fn talks_cut_at_each_byte(rt: HostRuntime) {
+    are_all(&rt, echoed(&rt, rt.alloc(), TALKS, Way::Cut), 217);
 }
 
 #[test]
-fn talks_that_break_off(rt: HostRuntime) -> Result<(), Fail> {
-    are_all(&rt, echoed(&rt, rt.alloc(), TALKS, Way::Failing), 217)
+fn talks_that_break_off(rt: HostRuntime) {
+    are_all(&rt, echoed(&rt, rt.alloc(), TALKS, Way::Failing), 217);
 }
 
 /// What is looked at anew stays in proportion to what comes, so this takes seconds at most.
 #[test]
-fn long_talks(rt: HostRuntime) -> Result<(), Fail> {
-    are_all(&rt, echoed(&rt, rt.alloc(), LONG_TALKS, Way::Long), 23)
+fn long_talks(rt: HostRuntime) {
+    are_all(&rt, echoed(&rt, rt.alloc(), LONG_TALKS, Way::Long), 23);
 }
 
 #[test]
-fn talks_with_or_without_memory(rt: HostRuntime) -> Result<(), Fail> {
-    are_all(&rt, echoed(&rt, rt.alloc(), TALKS, Way::Refused), 217)
+fn talks_with_or_without_memory(rt: HostRuntime) {
+    are_all(&rt, echoed(&rt, rt.alloc(), TALKS, Way::Refused), 217);
 }
 
 #[test]
-fn refusals_in_json(rt: HostRuntime) -> Result<(), Fail> {
-    are_all(&rt, echoed_in_json(&rt, rt.alloc(), Way::Cut), 15)?;
-    are_all(&rt, echoed_in_json(&rt, rt.alloc(), Way::Failing), 15)
+fn refusals_in_json(rt: HostRuntime) {
+    are_all(&rt, echoed_in_json(&rt, rt.alloc(), Way::Cut), 15);
+    are_all(&rt, echoed_in_json(&rt, rt.alloc(), Way::Failing), 15);
 }
 
 #[test]
-fn refusals_in_json_with_or_without_memory(rt: HostRuntime) -> Result<(), Fail> {
-    are_all(&rt, echoed_in_json(&rt, rt.alloc(), Way::Refused), 15)
+fn refusals_in_json_with_or_without_memory(rt: HostRuntime) {
+    are_all(&rt, echoed_in_json(&rt, rt.alloc(), Way::Refused), 15);
 }
 
 #[test]
-fn connections_cut_at_each_byte(rt: HostRuntime) -> Result<(), Fail> {
-    are_routed(&rt, rt.alloc(), Way::Cut)
+fn connections_cut_at_each_byte(rt: HostRuntime) {
+    are_routed(&rt, rt.alloc(), Way::Cut);
 }
 
 #[test]
-fn connections_that_break_off(rt: HostRuntime) -> Result<(), Fail> {
-    are_routed(&rt, rt.alloc(), Way::Failing)
+fn connections_that_break_off(rt: HostRuntime) {
+    are_routed(&rt, rt.alloc(), Way::Failing);
 }
 
 #[test]
-fn connections_with_or_without_memory(rt: HostRuntime) -> Result<(), Fail> {
-    are_routed(&rt, rt.alloc(), Way::Refused)
+fn connections_with_or_without_memory(rt: HostRuntime) {
+    are_routed(&rt, rt.alloc(), Way::Refused);
 }
 
 /// Whether a client is told that there was no memory, be it that the handler had none or that it was not asked.
@@ -137,37 +136,31 @@ fn is_told_of_memory<R: Threads + Sync>(rt: &R, alloc: Global) -> Result<bool, A
 
 /// tests/refused.py refuses each allocation in turn.
 #[test]
-fn a_reply_that_tells_of_memory_needs_none(rt: HostRuntime) -> Result<(), Fail> {
-    assert!(rt; is_told_of_memory(&rt, rt.alloc())?);
-    Ok(())
+fn a_reply_that_tells_of_memory_needs_none(rt: HostRuntime) {
+    assert!(rt; is_told_of_memory(&rt, rt.alloc()).expect(&rt, "memory"));
 }
 
 /// How much room the body of a message has beside its bytes, where the message comes to the handler.
-fn spare_room<R: Threads + Sync>(
-    rt: &R,
-    alloc: Global,
-    message: &[u8],
-) -> Result<Option<usize>, AllocError> {
-    let input = Vec::from_slice(alloc, message)?;
+fn spare_room<R: Threads + Sync + Abort>(rt: &R, alloc: Global, message: &[u8]) -> Option<usize> {
+    let input = Vec::from_slice(alloc, message).expect(rt, "memory");
     let mut line = MemoryLine::new(input, Vec::new(alloc), Vec::new(alloc), 0);
     let mut handler = Measuring { alloc, spare: None };
-    let mut buffer = connection_buffer(alloc)?;
+    let mut buffer = connection_buffer(alloc).expect(rt, "memory");
     match serve(rt, alloc, &mut line, &mut handler, &mut buffer) {
-        Ok(()) => Ok(handler.spare),
-        Err(_) => Ok(None),
+        Ok(()) => handler.spare,
+        Err(_) => None,
     }
 }
 
 #[test]
-fn bodies_have_no_room_that_they_leave_empty(rt: HostRuntime) -> Result<(), Fail> {
+fn bodies_have_no_room_that_they_leave_empty(rt: HostRuntime) {
     let sized = b"POST / HTTP/1.1\r\nHost: c\r\nContent-Length: 4\r\n\r\nabcd";
     let chunked = b"POST / HTTP/1.1\r\nHost: c\r\nTransfer-Encoding: chunked\r\n\r\n\
 3\r\nabc\r\n1\r\nd\r\n0\r\n\r\n";
     assert!(rt;
-        spare_room(&rt, rt.alloc(), sized)? == Some(0)
-            && spare_room(&rt, rt.alloc(), chunked)? == Some(0)
+        spare_room(&rt, rt.alloc(), sized) == Some(0)
+            && spare_room(&rt, rt.alloc(), chunked) == Some(0)
     );
-    Ok(())
 }
 
 const NO_SUCH_PATH: &[u8] = b"HTTP/1.1 404 Not Found\r\nContent-Type: application/x-protobuf\r\n\
@@ -189,28 +182,26 @@ fn times(output: &[u8], text: &[u8]) -> Option<usize> {
 
 /// Whether of messages whose heads settle their replies the handler is given one, the connection's buffer has as much
 /// room as before, and so many replies say that there is no such path, and nothing else is written.
-fn heeded<R: Threads + Sync>(
+fn heeded<R: Threads + Sync + Abort>(
     rt: &R,
     alloc: Global,
     message: Message,
     replies: usize,
-) -> Result<bool, AllocError> {
-    let mut line = line_of(alloc, message, 0)?;
+) -> bool {
+    let mut line = line_of(rt, alloc, message, 0);
     let mut handler = Heedless { alloc, given: 0 };
-    let mut buffer = connection_buffer(alloc)?;
+    let mut buffer = connection_buffer(alloc).expect(rt, "memory");
     let room = buffer.capacity();
     let told = serve(rt, alloc, &mut line, &mut handler, &mut buffer);
-    Ok(
-        told.is_ok()
-            && handler.given == 1
-            && buffer.capacity() == room
-            && times(line.output(), NO_SUCH_PATH) == Some(replies),
-    )
+    told.is_ok()
+        && handler.given == 1
+        && buffer.capacity() == room
+        && times(line.output(), NO_SUCH_PATH) == Some(replies)
 }
 
 /// Its handler isn't given it, and nothing of it stays in the buffer. The message behind it comes whole.
 #[test]
-fn a_body_that_is_not_wanted_is_let_go_of(rt: HostRuntime) -> Result<(), Fail> {
+fn a_body_that_is_not_wanted_is_let_go_of(rt: HostRuntime) {
     let of_a_length = Message {
         head: b"POST / HTTP/1.1\r\nHost: c\r\nContent-Length: 1048576\r\n\r\n",
         body: 1_048_576,
@@ -221,40 +212,33 @@ fn a_body_that_is_not_wanted_is_let_go_of(rt: HostRuntime) -> Result<(), Fail> {
         body: 1_048_576,
         tail: b"\r\n0\r\n\r\nGET / HTTP/1.1\r\nHost: c\r\n\r\n",
     };
-    assert!(rt; heeded(&rt, rt.alloc(), of_a_length, 2)? && heeded(&rt, rt.alloc(), chunked, 2)?);
-    Ok(())
+    assert!(rt; heeded(&rt, rt.alloc(), of_a_length, 2) && heeded(&rt, rt.alloc(), chunked, 2));
 }
 
 /// There is nothing to let go of where a body came whole with its head.
 #[test]
-fn a_body_that_came_with_its_head_is_given(rt: HostRuntime) -> Result<(), Fail> {
+fn a_body_that_came_with_its_head_is_given(rt: HostRuntime) {
     let message = Message {
         head: b"POST / HTTP/1.1\r\nHost: c\r\nContent-Length: 9\r\n\r\n",
         body: 9,
         tail: b"",
     };
-    assert!(rt; heeded(&rt, rt.alloc(), message, 1)?);
-    Ok(())
+    assert!(rt; heeded(&rt, rt.alloc(), message, 1));
 }
 
-/// Whether a reply of this status and kind with the body `a`, after which the connection closes, begins so.
-fn is_written(
-    alloc: Global,
-    status: u16,
-    media: MediaType,
-    begin: &str,
-) -> Result<bool, AllocError> {
-    let body = Vec::from_slice(alloc, b"a")?;
+/// A reply of this status and kind with the body `a`, after which the connection closes, begins so.
+fn assert_begins(rt: &impl Abort, alloc: Global, status: u16, media: MediaType, begin: &str) {
     let reply = Reply {
         status,
         media,
         allow: Allow::Post,
-        body,
+        body: Vec::from_slice(alloc, b"a").expect(rt, "memory"),
     };
     let want = format!(in alloc;
         "HTTP/1.1 {begin}Connection: close\r\nContent-Length: 1\r\n\r\na"
-    )?;
-    Ok(reply_bytes(alloc, RefusalForm::Status, &reply, true)?.as_slice() == want.as_bytes())
+    ).expect(rt, "memory");
+    let bytes = reply_bytes(alloc, RefusalForm::Status, &reply, true).expect(rt, "memory");
+    assert!(rt; bytes.as_slice() == want.as_bytes(), "{status}");
 }
 
 /// Each kind of content, and each status that no talk has.
@@ -287,9 +271,8 @@ const REPLIES: [(u16, MediaType, &str); 5] = [
 ];
 
 #[test]
-fn replies_as_bytes(rt: HostRuntime) -> Result<(), Fail> {
+fn replies_as_bytes(rt: HostRuntime) {
     for (status, media, begin) in REPLIES {
-        assert!(rt; is_written(rt.alloc(), status, media, begin)?);
+        assert_begins(&rt, rt.alloc(), status, media, begin);
     }
-    Ok(())
 }

@@ -5,7 +5,6 @@ use http_edge::{EdgeFault, Handler, RefusalForm, connection_buffer, serve};
 use http_line::{Line, MemoryLine};
 use std::alloc::{AllocError, Global};
 use std::process::Abort;
-use std::test::Fail;
 use std::thread::Threads;
 
 /// A way in which a talk is gone through.
@@ -29,139 +28,136 @@ struct Talk {
 }
 
 /// So many cases of a text were as they have to be, and none wasn't.
-pub fn are_all(
-    rt: &impl Abort,
-    told: Result<(u32, &'static str), AllocError>,
-    count: u32,
-) -> Result<(), Fail> {
-    assert_eq!(rt; told?, (count, ""));
-    Ok(())
+pub fn are_all(rt: &impl Abort, (told, wrong): (u32, &'static str), count: u32) {
+    assert_eq!(rt; wrong, "");
+    assert_eq!(rt; told, count);
 }
 
 /// Goes through the talks of a text, a line each, up to the first that isn't as it has to be. How many were, and that
 /// one.
-pub fn walk<R: Threads + Sync, H: Handler>(
+pub fn walk<R: Threads + Sync + Abort, H: Handler>(
     rt: &R,
     alloc: Global,
     handler: &mut H,
     names: &[Name],
     lines: &'static str,
     way: Way,
-) -> Result<(u32, &'static str), AllocError> {
+) -> (u32, &'static str) {
     let mut count = 0u32;
     for line in lines.lines() {
         if let Some((input, want)) = line.split_once(" -> ") {
-            let input = unfolded(alloc, names, input)?;
-            let want = unfolded(alloc, names, want)?;
-            if !is_told(rt, alloc, handler, &Talk { input, want }, way)? {
-                return Ok((count, line));
+            let input = unfolded(alloc, names, input).expect(rt, "memory");
+            let want = unfolded(alloc, names, want).expect(rt, "memory");
+            if !is_told(rt, alloc, handler, &Talk { input, want }, way) {
+                return (count, line);
             }
             count = count.saturating_add(1);
         }
     }
-    Ok((count, ""))
+    (count, "")
 }
 
-fn is_told<R: Threads + Sync, H: Handler>(
+fn is_told<R: Threads + Sync + Abort, H: Handler>(
     rt: &R,
     alloc: Global,
     handler: &mut H,
     talk: &Talk,
     way: Way,
-) -> Result<bool, AllocError> {
+) -> bool {
     match way {
         Way::Cut => is_told_cut(rt, alloc, handler, talk),
         Way::Long => is_told_long(rt, alloc, handler, talk),
         Way::Failing => breaks_off(rt, alloc, handler, talk),
-        Way::Refused => is_told_or_refused(rt, alloc, handler, talk),
+        Way::Refused => is_told_or_refused(rt, alloc, handler, talk).expect(rt, "memory"),
     }
 }
 
 /// Whether that is written where the input comes in pieces of these lengths and then as it is.
-fn is_told_in<R: Threads + Sync, H: Handler>(
+fn is_told_in<R: Threads + Sync + Abort, H: Handler>(
     rt: &R,
     alloc: Global,
     handler: &mut H,
     talk: &Talk,
     pieces: Vec<usize>,
-) -> Result<bool, AllocError> {
-    let input = Vec::from_slice(alloc, &talk.input)?;
+) -> bool {
+    let input = Vec::from_slice(alloc, &talk.input).expect(rt, "memory");
     let mut line = MemoryLine::new(input, pieces, Vec::new(alloc), 0);
-    let mut buffer = used_buffer(alloc)?;
+    let mut buffer = used_buffer(alloc).expect(rt, "memory");
     let told = serve(rt, alloc, &mut line, handler, &mut buffer);
-    Ok(told.is_ok() && line.output() == talk.want.as_slice())
+    told.is_ok() && line.output() == talk.want.as_slice()
 }
 
-fn is_told_cut<R: Threads + Sync, H: Handler>(
+fn is_told_cut<R: Threads + Sync + Abort, H: Handler>(
     rt: &R,
     alloc: Global,
     handler: &mut H,
     talk: &Talk,
-) -> Result<bool, AllocError> {
+) -> bool {
     for cut in 0..=talk.input.len() {
-        if !is_told_in(rt, alloc, handler, talk, Vec::from_slice(alloc, &[cut])?)? {
-            return Ok(false);
+        let pieces = Vec::from_slice(alloc, &[cut]).expect(rt, "memory");
+        if !is_told_in(rt, alloc, handler, talk, pieces) {
+            return false;
         }
     }
     is_told_singly(rt, alloc, handler, talk)
 }
 
-fn is_told_singly<R: Threads + Sync, H: Handler>(
+fn is_told_singly<R: Threads + Sync + Abort, H: Handler>(
     rt: &R,
     alloc: Global,
     handler: &mut H,
     talk: &Talk,
-) -> Result<bool, AllocError> {
-    let single = vec![in alloc; 1usize; talk.input.len()]?;
+) -> bool {
+    let single = vec![in alloc; 1usize; talk.input.len()].expect(rt, "memory");
     is_told_in(rt, alloc, handler, talk, single)
 }
 
-fn is_told_long<R: Threads + Sync, H: Handler>(
+fn is_told_long<R: Threads + Sync + Abort, H: Handler>(
     rt: &R,
     alloc: Global,
     handler: &mut H,
     talk: &Talk,
-) -> Result<bool, AllocError> {
-    if !is_told_in(rt, alloc, handler, talk, Vec::new(alloc))? {
-        return Ok(false);
-    }
-    if talk.input.len() > 200_000 {
-        return Ok(true);
+) -> bool {
+    let is_told = is_told_in(rt, alloc, handler, talk, Vec::new(alloc));
+    if !is_told || talk.input.len() > 200_000 {
+        return is_told;
     }
     is_told_singly(rt, alloc, handler, talk)
 }
 
 /// Whether over a line that fails at its first call, its second and so on a beginning of what is to be written is
 /// written, up to the first line that doesn't fail.
-fn breaks_off<R: Threads + Sync, H: Handler>(
+fn breaks_off<R: Threads + Sync + Abort, H: Handler>(
     rt: &R,
     alloc: Global,
     handler: &mut H,
     talk: &Talk,
-) -> Result<bool, AllocError> {
+) -> bool {
     for fuse in 1..1000u64 {
-        let mut line = failing_line(alloc, &talk.input, 9, fuse)?;
-        match serve(rt, alloc, &mut line, handler, &mut used_buffer(alloc)?) {
-            Ok(()) => return Ok(line.output() == talk.want.as_slice() && line.failures() == 0),
-            Err(EdgeFault::OutOfMemory) => return Ok(false),
+        let mut line = failing_line(rt, alloc, &talk.input, 9, fuse);
+        let mut buffer = used_buffer(alloc).expect(rt, "memory");
+        match serve(rt, alloc, &mut line, handler, &mut buffer) {
+            Ok(()) => return line.output() == talk.want.as_slice() && line.failures() == 0,
+            Err(EdgeFault::OutOfMemory) => return false,
             Err(_) => if !talk.want.starts_with(line.output()) || line.failures() != 1 {
-                return Ok(false);
+                return false;
             },
         }
     }
-    Ok(false)
+    false
 }
 
 /// A line whose input comes in pieces of so many bytes, and whose call number `fuse` fails.
 pub fn failing_line(
+    rt: &impl Abort,
     alloc: Global,
     input: &[u8],
     piece: usize,
     fuse: u64,
-) -> Result<MemoryLine, AllocError> {
-    let pieces = vec![in alloc; piece; 100]?;
-    let input = Vec::from_slice(alloc, input)?;
-    Ok(MemoryLine::new(input, pieces, Vec::new(alloc), fuse))
+) -> MemoryLine {
+    let pieces = vec![in alloc; piece; 100].expect(rt, "memory");
+    let input = Vec::from_slice(alloc, input).expect(rt, "memory");
+    MemoryLine::new(input, pieces, Vec::new(alloc), fuse)
 }
 
 /// A buffer with what a connection before left in it.
