@@ -6,7 +6,7 @@ use http_line::MemoryLine;
 use send_retry::Answer;
 use std::alloc::{AllocError, Global};
 use std::cell::Cell;
-use std::test::Fail;
+use std::process::Abort;
 
 /// Notes the last digits of the addresses that it was asked for. At each but the third tenant's a back end answers with
 /// its address as the body.
@@ -39,45 +39,46 @@ fn answering(alloc: Global, body: &str) -> Result<MemoryLine, AllocError> {
     Ok(MemoryLine::new(reply, Vec::new(alloc), Vec::new(alloc), 0))
 }
 
-fn addresses(alloc: Global) -> Result<Vec<String>, AllocError> {
-    let mut all = Vec::new(alloc);
-    for address in ["h:1", "h:2", "h:3"] {
-        all.push(String::from_str(alloc, address)?)?;
-    }
-    Ok(all)
+fn address(rt: &impl Abort, alloc: Global, text: &str) -> String {
+    String::from_str(alloc, text).expect(rt, "memory")
 }
 
-/// Pushes an answer's body, `-` where no answer came, and `?` where it isn't 200.
-fn push_body(told: &mut Vec<u8>, answer: &Answer) -> Result<(), AllocError> {
+/// What is told of an answer: its body, `-` where no answer came, and `?` where it isn't 200.
+fn told_of(answer: &Answer) -> &[u8] {
     match answer {
         Answer::Http {
             status: 200,
             body,
             ..
-        } => told.extend_from_slice(body),
-        Answer::Http { .. } => Ok(told.push(b'?')?),
-        Answer::Failed => Ok(told.push(b'-')?),
+        } => body,
+        Answer::Http { .. } => b"?",
+        Answer::Failed => b"-",
     }
 }
 
 /// What jobs of these tenants come to.
-fn posted(alloc: Global, asked: &Cell<u32>, tenants: &[u32]) -> Result<Vec<u8>, AllocError> {
-    let addresses = addresses(alloc)?;
-    let list = AddressList::new(addresses.as_slice());
+fn posted(rt: &impl Abort, alloc: Global, asked: &Cell<u32>, tenants: &[u32]) -> Vec<u8> {
+    let addresses = [
+        address(rt, alloc, "h:1"),
+        address(rt, alloc, "h:2"),
+        address(rt, alloc, "h:3"),
+    ];
+    let list = AddressList::new(&addresses);
     let mut back_end = DialingBackEnd::over(Directory { alloc, asked }, alloc, list);
     let mut told = Vec::new(alloc);
     for tenant in tenants {
-        push_body(&mut told, &back_end.post(&job(*tenant, 1)))?;
+        let answer = back_end.post(&job(*tenant, 1));
+        told.extend_from_slice(told_of(&answer))
+            .expect(rt, "memory");
     }
-    Ok(told)
+    told
 }
 
 /// The fourth and the fifth tenant have no address, and nobody is asked for one.
 #[test]
-fn each_job_goes_to_its_own_address(rt: HostRuntime) -> Result<(), Fail> {
+fn each_job_goes_to_its_own_address(rt: HostRuntime) {
     let asked = Cell::new(0u32);
-    let told = posted(rt.alloc(), &asked, &[4, 1, 0, 2, 3, 1])?;
-    assert_eq!(rt; told.as_slice(), b"-h:2h:1--h:2".as_slice());
+    let told = posted(&rt, rt.alloc(), &asked, &[4, 1, 0, 2, 3, 1]);
+    assert!(rt; told.as_slice() == b"-h:2h:1--h:2".as_slice());
     assert_eq!(rt; asked.get(), 2132);
-    Ok(())
 }

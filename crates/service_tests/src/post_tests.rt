@@ -9,6 +9,7 @@ use http_edge::Reply;
 use service_runtime::Gates;
 use shared_hub::{Caller, HubFault, SharedHub};
 use std::alloc::{AllocError, Global};
+use std::process::Abort;
 use std::sync::Wait;
 use std::test::Fail;
 use std::thread::Threads;
@@ -119,23 +120,18 @@ fn are_told<R: Threads + Wait + Sync>(
 /// The same, of a hub that is opened for them.
 fn are_told_by_a_hub<R>(rt: &R, alloc: Global, settings: &Settings) -> bool
 where
-    R: Threads + Wait + Sync,
+    R: Threads + Wait + Sync + Abort,
 {
-    let Ok((hub, _keeper, mut callers)) = SharedHub::open(rt, alloc, settings, 1, false, KEYS)
-    else {
-        return false;
-    };
-    match callers.pop() {
-        Some(mut me) => are_told(rt, alloc, settings, &hub, &mut me),
-        None => false,
-    }
+    let opened = SharedHub::open(rt, alloc, settings, 1, false, KEYS);
+    let (hub, _keeper, mut callers) = opened.expect(rt, "memory");
+    let mut me = callers.pop().expect(rt, "a caller");
+    are_told(rt, alloc, settings, &hub, &mut me)
 }
 
 #[test]
-fn each_is_told_what_came_of_its_body(rt: HostRuntime) -> Result<(), Fail> {
-    let settings = load(rt.alloc(), SETTINGS)?;
+fn each_is_told_what_came_of_its_body(rt: HostRuntime) {
+    let settings = load(rt.alloc(), SETTINGS).expect(&rt, "good settings");
     assert!(rt; are_told_by_a_hub(&rt, rt.alloc(), &settings));
-    Ok(())
 }
 
 /// How many of two posts of the span to the second tenant are told 200. The others are told of memory: else None.

@@ -3,7 +3,8 @@
 use admin_pages::AdminRoute;
 use http_edge::Header;
 use service_runtime::{Line, is_let_in, next_line, write_text};
-use std::alloc::{AllocError, Global};
+use std::alloc::Global;
+use std::process::Abort;
 use std::sync::Wait;
 
 /// Whether the input's next line is this.
@@ -40,22 +41,23 @@ fn a_text_that_has_no_room_is_lost_and_counted(rt: HostRuntime) {
 }
 
 /// A message's only field.
-fn field(alloc: Global, name: &str, value: &str) -> Result<Header, AllocError> {
-    Ok(Header {
-        name: name.as_bytes().to_vec(alloc)?,
-        value: value.as_bytes().to_vec(alloc)?,
-    })
+fn field(rt: &impl Abort, alloc: Global, name: &str, value: &str) -> Header {
+    Header {
+        name: name.as_bytes().to_vec(alloc).expect(rt, "memory"),
+        value: value.as_bytes().to_vec(alloc).expect(rt, "memory"),
+    }
 }
 
 /// Whether a message with this field is let in where this token is wanted.
 fn lets_in(
+    rt: &impl Abort,
     alloc: Global,
     wanted: Option<&[u8]>,
     asked: &AdminRoute<'_>,
     (name, value): (&str, &str),
-) -> Result<bool, AllocError> {
-    let headers = [field(alloc, name, value)?];
-    Ok(is_let_in(wanted, &headers, asked))
+) -> bool {
+    let headers = [field(rt, alloc, name, value)];
+    is_let_in(wanted, &headers, asked)
 }
 
 #[test]
@@ -66,12 +68,12 @@ fn the_token_lets_in_and_without_one_no_page_may_change_anything(rt: HostRuntime
     let page = ("Origin", "http://localhost");
     let alloc = rt.alloc();
     let are_let_in = [
-        lets_in(alloc, token, &AdminRoute::Drain, bearer),
-        lets_in(alloc, token, &AdminRoute::Tenants, other),
-        lets_in(alloc, token, &AdminRoute::Health, other),
-        lets_in(alloc, None, &AdminRoute::Drain, other),
-        lets_in(alloc, None, &AdminRoute::Drain, page),
-        lets_in(alloc, None, &AdminRoute::Tenants, page),
+        lets_in(&rt, alloc, token, &AdminRoute::Drain, bearer),
+        lets_in(&rt, alloc, token, &AdminRoute::Tenants, other),
+        lets_in(&rt, alloc, token, &AdminRoute::Health, other),
+        lets_in(&rt, alloc, None, &AdminRoute::Drain, other),
+        lets_in(&rt, alloc, None, &AdminRoute::Drain, page),
+        lets_in(&rt, alloc, None, &AdminRoute::Tenants, page),
     ];
-    assert!(rt; are_let_in == [Ok(true), Ok(false), Ok(true), Ok(true), Ok(false), Ok(true)]);
+    assert!(rt; are_let_in == [true, false, true, true, false, true]);
 }
