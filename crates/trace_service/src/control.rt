@@ -1,6 +1,6 @@
 //! Who reads the input, and ends the service.
 
-ghost use Rattle.std.specs.Prelude.{◌≡◌, ◌<◌, length, map, OnOk, IfNone, true};
+ghost use Rattle.std.specs.Prelude.{◌≡◌, length, map, OnOk, IfNone, true};
 ghost use Rattle.std.specs.Bool.{OnTrue};
 ghost use Rattle.tenant_registry.specs.Roster.{entry_of, present_in};
 ghost use Rattle.trace_service.specs.Control.{Answers, ReadsCommands, Reports, ReportsNamed};
@@ -19,6 +19,7 @@ use service_runtime::{
     Documents, Line, Observer, ServiceBeat, Signals, Stage, Teller, all_arrive, next_line,
     wake_at_last, write_text,
 };
+use shared_hub::SharedHub;
 use std::alloc::{AllocError, Global};
 use std::io::{BufRead, Write};
 use std::mem;
@@ -154,8 +155,13 @@ where
             self.new.beat.last }
         ensures hub { self.new.context.hub ≡ self.old.context.hub }
     {
-        let shards = self.context.hub.shards();
-        hurry(self.rt, self.context.settings, &self.beat, shards, tenants);
+        hurry(
+            self.rt,
+            self.context.settings,
+            &self.beat,
+            self.context.hub,
+            tenants,
+        );
         for tenant in tenants {
             self.make(tenant.number, Chore::Drain);
         }
@@ -227,19 +233,14 @@ fn hurry<J: SettingsNaming, R: Wait + Clock>(
     rt: &R,
     settings: &Mutex<InForce<J>>,
     beat: &ServiceBeat<'_, R>,
-    shards: usize,
+    hub: &SharedHub,
     tenants: &[Present],
-)
-    requires { 0 < shards }
-{
+) {
     for tenant in tenants {
         let now = beat.with_short_pauses().now();
         let longest = longest_wait_of(rt, settings, tenant.number);
-        if let Some(pace) = beat
-            .signals()
-            .paces()
-            .shard(tenant.number as usize % shards)
-        {
+        let shard = hub.shard_of(tenant.number);
+        if let Some(pace) = beat.signals().paces().shard(shard) {
             pace.hurry(now.saturating_add(longest));
         }
     }
