@@ -7,7 +7,8 @@
 A run may pass, or end for want of memory: with an error that says so, or at an `expect` of a value for which there was
 none (`memory: AllocError`). Anything else is listed and fails: an assertion, another error, a crash. So a test that does
 a call again after a refusal, and compares what stood before with what stands after it, shows that a refused call changes
-nothing. It needs a C compiler, `cc`, and what the test was built for.
+nothing. A run that ends at an `expect` drops nothing of what the test owns, so it doesn't show that this goes well. It
+needs a C compiler, `cc`, and what the test was built for.
 """
 import os
 import pathlib
