@@ -140,8 +140,40 @@ pub fn wrap_in_field(out: &mut Vec<u8>, start: usize, number: u32) -> Result<(),
 /// The most bytes that a tag and a length have.
 const LONGEST_HEADER: usize = 20;
 
+/// The most bytes that are moved all at once, by way of the stack. Longer ones are moved one by one.
+const SHORT: usize = 64;
+
 /// Moves the bytes from `end` on, a field's tag and length, before those from `start` to `end`.
 fn move_forward(out: &mut [u8], start: usize, end: usize)
+    requires order { start ≤ end }
+    requires within { end ≤ length out.old }
+    requires move_bounded { length out.old ≤ end + 20 }
+    ensures { out.new ≡ take start out.old ++ (drop end out.old ++ drop start (take end out.old)) }
+{
+    if end - start <= SHORT {
+        move_over_short(out, start, end);
+    } else {
+        move_over_long(out, start, end);
+    }
+}
+
+/// The same where those are short.
+fn move_over_short(out: &mut [u8], start: usize, end: usize)
+    requires order { start ≤ end }
+    requires within { end ≤ length out.old }
+    requires short { end ≤ start + 64 }
+    ensures { out.new ≡ take start out.old ++ (drop end out.old ++ drop start (take end out.old)) }
+{
+    let added = out.len() - end;
+    let size = end - start;
+    let mut content = [0; SHORT];
+    content[..size].copy_from_slice(&out[start..end]);
+    out.copy_within(end.., start);
+    out[start + added..].copy_from_slice(&content[..size]);
+}
+
+/// The same where those are long.
+fn move_over_long(out: &mut [u8], start: usize, end: usize)
     requires order { start ≤ end }
     requires within { end ≤ length out.old }
     requires move_bounded { length out.old ≤ end + 20 }

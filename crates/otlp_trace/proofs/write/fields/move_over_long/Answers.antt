@@ -2,7 +2,7 @@ use Rattle.std.proofs.Common.{◌≡◌, ◌+◌, ◌-◌, length, drop, arith, 
 use Rattle.std.proofs.lemmas.Slice.{put_mid-paste}
 use Rattle.std.proofs.lemmas.List.{length-drop, take_rest}
 use Rattle.otlp_trace.proofs.Moved.{front, moved}
-use Rattle.otlp_trace.proofs.write.fields.move_forward.Goals as goal
+use Rattle.otlp_trace.proofs.write.fields.move_over_long.Goals as goal
 
 pub returns : goal.returns
 returns c =
