@@ -1,8 +1,7 @@
 //! Attributes whose lengths are longer than they have to be. Some clients leave four bytes for the length of a message
 //! that they have yet to write, and fill them.
 
-ghost use Rattle.std.specs.Prelude.{◌≡◌, ◌++◌, ◌-◌, ◌<◌, ℕ, List, length, true, IfOk, IfSome};
-ghost use Rattle.otlp_trace.specs.Text.{bytes_field};
+ghost use Rattle.std.specs.Prelude.{◌≡◌, ◌-◌, ◌<◌, ℕ, List, true, IfOk, IfSome};
 ghost use Rattle.otlp_canonical.specs.Attribute.{ValueLast};
 ghost use Rattle.otlp_canonical.specs.Inner.{FieldAlike};
 ghost use Rattle.otlp_read.specs.AnyValue.{no_key_value, key_value_step};
@@ -187,27 +186,11 @@ pub fn is_respelled(text: &[u8], has_long_length: bool, span: usize, room: u32) 
     }
 }
 
-/// The attribute at the front, if it has a length of one byte and isn't respelled, and the rest. The span has so many
-/// bytes. There is room for so many levels, the attribute's own among them. It is noted of such an attribute whether it
-/// is respelled.
+/// Whether an attribute whose length has one byte stays as it is in a span of so many bytes. There is room for so many
+/// levels, the attribute's own among them.
 #[inline(always)]
-pub fn short_attribute<'a>(
-    text: &'a [u8],
-    span: usize,
-    room: u32,
-    respelled: &mut bool,
-) -> Option<(&'a [u8], &'a [u8])>
-    ensures parts { IfSome result (λ x. text.now ≡ bytes_field 9 x.0.now ++ x.1.now) }
-    ensures shorter { IfSome result (λ x. length x.1.now < length text.now) }
-    ensures short { IfSome result (λ x. length x.0.now < 128) }
-{
-    let (attribute, rest) = short_field(text, 9)?;
-    if begins_plainly(attribute) || !is_respelled(attribute, false, span, room) {
-        Some((attribute, rest))
-    } else {
-        *respelled = true;
-        None
-    }
+pub fn stays_as_it_is(text: &[u8], span: usize, room: u32) -> bool {
+    begins_plainly(text) || !is_respelled(text, false, span, room)
 }
 
 /// Whether the value is an array or a list.

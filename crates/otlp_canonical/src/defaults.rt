@@ -12,7 +12,8 @@ ghost use Rattle.otlp_trace.specs.Defaults.{no_span};
 ghost use Rattle.otlp_read.specs.Value.{span_step};
 ghost use Rattle.otlp_read.specs.Walk.{read_with};
 
-use crate::attribute::{field_size, is_respelled, put_span_attribute, short_attribute};
+use crate::attribute::{field_size, is_respelled, put_span_attribute, stays_as_it_is};
+use crate::field::short_field;
 use crate::inner::{put_message, spare_size};
 use crate::rewritten::rewritten_or_vain;
 use crate::text::is_span_text;
@@ -66,23 +67,15 @@ impl Spare {
 }
 
 /// What need not be there of a span's field, which takes so many bytes, in a span of so many; none where the field
-/// stays as it is. An attribute may be known to be respelled.
+/// stays as it is.
 #[inline(always)]
-fn spare_inside(
-    field: Field<'_>,
-    size: usize,
-    room: u32,
-    span: usize,
-    respelled: bool,
-) -> Option<Spare> {
+fn spare_inside(field: Field<'_>, size: usize, room: u32, span: usize) -> Option<Spare> {
     let Value::Bytes(text) = field.value else {
         return None;
     };
     let is_long = size > field_size(text.len());
     let spare = match field.number {
-        9 if respelled || is_respelled(text, is_long, span, room) => {
-            return Some(Spare::Respelled);
-        }
+        9 if is_respelled(text, is_long, span, room) => return Some(Spare::Respelled),
         9 => 0,
         11 => spare_size::<Event>(text, room),
         13 => spare_size::<Link>(text, room),
@@ -212,15 +205,23 @@ fn put_fields<'a>(
     let mut left = text;
     let mut most = 0u32;
     'fields: while !left.is_empty() {
-        let mut respelled = false;
         // Most attributes have lengths of one byte, and stay.
-        if let Some((_attribute, rest)) = short_attribute(
-            left,
-            text.len(),
-            room - 1,
-            &mut respelled,
-        ) {
+        if let Some((attribute, rest)) = short_field(left, 9) {
+            if stays_as_it_is(attribute, text.len(), room - 1) {
+                most = most.max(9);
+                left = rest;
+                continue;
+            }
+            let field = Field {
+                number: 9,
+                value: Value::Bytes(attribute),
+            };
+            put_between(copy, &from[..from.len() - left.len()])?;
+            if !put_bare(alloc, copy, field, Spare::Respelled, most, room - 1)? {
+                return Ok(None);
+            }
             most = most.max(9);
+            from = rest;
             left = rest;
             continue;
         }
@@ -228,7 +229,7 @@ fn put_fields<'a>(
             return Ok(None);
         };
         let size = left.len() - rest.len();
-        let spare = spare_inside(field, size, room - 1, text.len(), respelled);
+        let spare = spare_inside(field, size, room - 1, text.len());
         let moves = is_moved(field, moves_flags);
         if spare.is_none() && !is_default(field) && !moves {
             if is_late(field, most) {

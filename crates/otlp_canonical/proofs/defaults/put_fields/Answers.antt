@@ -18,9 +18,9 @@ use Rattle.otlp_canonical.proofs.defaults.put_fields.Goals as goal
 pub fields-init : goal.fields-init
 fields-init c = rw c.requires.none (none_moved c.args.room c.args.text.now [] c.args.moves_flags refl)
 
-pub fields-preserved-in-Some : goal.fields-preserved-in-Some
-fields-preserved-in-Some c =
-    let bytes = c.in-Some._attribute.now in
+pub fields-preserved-then-stays_as_it_is : goal.fields-preserved-then-stays_as_it_is
+fields-preserved-then-stays_as_it_is c =
+    let bytes = c.in-Some.attribute.now in
     let rest = c.in-Some.rest.now in
     let m = c.fields.invariant in
     let short : length bytes < 2 ^ 64 = omega (arith, c.in-Some.ensures.short) in
@@ -29,6 +29,20 @@ fields-preserved-in-Some c =
     c.fields.copy.items c.fields.from.now c.fields.left.now rest c.fields.most c.max-most.result (holding 9 bytes) c.in-Some.ensures.shorter (omega arith) (omega arith) there m.going in
     moved_on c.args.room c.args.text.now c.fields.copy.items c.fields.copy.items c.fields.from.now c.fields.from.now c.fields.left.now rest c.fields.flags.now
     c.fields.most c.max-most.result c.args.moves_flags (holding 9 bytes) there refl m going
+
+pub fields-preserved-in-Some : goal.fields-preserved-in-Some
+fields-preserved-in-Some c =
+    let bytes = c.in-Some.attribute.now in
+    let rest = c.in-Some.rest.now in
+    let m = c.fields.invariant in
+    let short : length bytes < 2 ^ 64 = omega (arith, c.in-Some.ensures.short) in
+    let there = held_found (101 - c.args.room) 9 c.fields.left.now bytes rest (omega arith) (omega arith) short c.in-Some.ensures.parts in
+    let put : PutFor span_step DefaultsAbove (c.args.room - 1) (101 - c.args.room) c.fields.most (holding 9 bytes) c.put_between.new.copy.items c.put_bare.new.copy.items = search rules in
+    let going = going_put span_step no_span holds_default DefaultsAbove span_laws c.args.room m.meant []
+    c.fields.copy.items c.put_between.new.copy.items c.put_bare.new.copy.items c.fields.from.now c.fields.left.now rest c.fields.most c.max-most-in-Some.result (holding 9 bytes) put.put
+    c.in_ok-put_between.ensures put.copied put.alike (omega arith) (omega arith) there m.going in
+    moved_on c.args.room c.args.text.now c.fields.copy.items c.put_bare.new.copy.items c.fields.from.now rest c.fields.left.now rest c.fields.flags.now
+    c.fields.most c.max-most-in-Some.result c.args.moves_flags (holding 9 bytes) there refl m going
 
 pub fields-preserved-then-not-moves : goal.fields-preserved-then-not-moves
 fields-preserved-then-not-moves c =
@@ -56,8 +70,8 @@ fields-preserved-then-is_empty c =
     let there : next_at (101 - c.args.room) c.fields.left.now ≡ Ok (Some (field, rest)) = subst (λ (n : ℕ). next_at n c.fields.left.now ≡ Ok (Some (field, rest))) at found in
     let moved : (place_of field == 16 && c.args.moves_flags) ≡ true = search rules in
     let none : length c.fields.flags.now ≡ 0 = grind (arith, nat_tests) in
-    flags_moved c.args.room c.args.text.now c.fields.copy.items c.put_between.new.copy.items c.fields.from.now c.fields.left.now rest c.fields.flags.now _
-    c.fields.most c.args.moves_flags field there moved none c.in_ok-put_between.ensures refl c.fields.invariant
+    flags_moved c.args.room c.args.text.now c.fields.copy.items c.put_between-in-fields.new.copy.items c.fields.from.now c.fields.left.now rest c.fields.flags.now _
+    c.fields.most c.args.moves_flags field there moved none c.in_ok-put_between-2.ensures refl c.fields.invariant
 
 pub fields-preserved : goal.fields-preserved
 fields-preserved c =
@@ -69,11 +83,11 @@ fields-preserved c =
     let found : next_at d c.fields.left.now ≡ Ok (Some (field, rest)) = search rules in
     let there : next_at (101 - c.args.room) c.fields.left.now ≡ Ok (Some (field, rest)) = subst (λ (n : ℕ). next_at n c.fields.left.now ≡ Ok (Some (field, rest))) at found in
     let other : (place_of field == 16 && c.args.moves_flags) ≡ false = search rules in
-    let put : PutFor span_step DefaultsAbove (c.args.room - 1) (101 - c.args.room) c.fields.most field c.put_between.new.copy.items c.put_bare.new.copy.items = search rules in
+    let put : PutFor span_step DefaultsAbove (c.args.room - 1) (101 - c.args.room) c.fields.most field c.put_between-in-fields.new.copy.items c.put_bare-then-not-moves-2.new.copy.items = search rules in
     let going = going_put span_step no_span holds_default DefaultsAbove span_laws c.args.room m.meant []
-    c.fields.copy.items c.put_between.new.copy.items c.put_bare.new.copy.items c.fields.from.now c.fields.left.now rest c.fields.most c.max-most-then-branch.result field put.put
-    c.in_ok-put_between.ensures put.copied put.alike (omega arith) (omega arith) there m.going in
-    moved_on c.args.room c.args.text.now c.fields.copy.items c.put_bare.new.copy.items c.fields.from.now rest c.fields.left.now rest c.fields.flags.now
+    c.fields.copy.items c.put_between-in-fields.new.copy.items c.put_bare-then-not-moves-2.new.copy.items c.fields.from.now c.fields.left.now rest c.fields.most c.max-most-then-branch.result field put.put
+    c.in_ok-put_between-2.ensures put.copied put.alike (omega arith) (omega arith) there m.going in
+    moved_on c.args.room c.args.text.now c.fields.copy.items c.put_bare-then-not-moves-2.new.copy.items c.fields.from.now rest c.fields.left.now rest c.fields.flags.now
     c.fields.most c.max-most-then-branch.result c.args.moves_flags field there other m going
 
 pub returns : goal.returns
