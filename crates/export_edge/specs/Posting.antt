@@ -6,7 +6,7 @@ use Rattle.http_line.specs.Line.{Moves}
 use Rattle.http_edge.specs.Steps.{HasFailed}
 use Rattle.http_edge.specs.Post.{Tells}
 use Rattle.http_edge.specs.declared.wire.EdgeFault.{EdgeFault}
-use Rattle.http_edge.specs.declared.wire.EdgeFault.TheVariants.{ReadFailed, WriteFailed}
+use Rattle.http_edge.specs.declared.wire.EdgeFault.TheVariants.{OutOfMemory, ReadFailed, WriteFailed}
 
 -- Between two states of a line first the post was written, whole, and nothing read, and then bytes were read, and
 -- nothing written: these tell the answer, where the input had ended or not.
@@ -21,9 +21,10 @@ pub record Exchanges {L : Type 0} (gives takes : L → L → List ℕ → Type 0
 -- Between two states of a line the same began, and this fault broke it off.
 pub data BreaksOff {L : Type 0} (gives takes : L → L → List ℕ → Type 0) (failed : L → ℕ) (post : List ℕ) (old new : L)
     (fault : EdgeFault) : Type 0 where
-  -- a beginning of the post was written; a write failed, or memory was refused
+  -- a beginning of the post was written, and a write failed; or memory was refused, and nothing of it was written
   in_post : (front missing : List ℕ) → post ≡ front ++ missing
       → Moves gives takes old new [] front → fault ≢ ReadFailed
+      → (fault ≡ OutOfMemory → Moves gives takes old new [] [])
       → (fault ≡ WriteFailed → HasFailed (failed old) (failed new)) → BreaksOff gives takes failed post old new fault
   -- the post was written; a read failed, or memory was refused
   in_answer : (between : L) (read : List ℕ)

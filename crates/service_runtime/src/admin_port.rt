@@ -1,6 +1,6 @@
 //! A service's admin port.
 
-ghost use Rattle.std.specs.Prelude.{◌≡◌, is_some, option_map};
+ghost use Rattle.std.specs.Prelude.{◌≡◌, Some, is_some, option_map};
 
 use crate::desk::AdminDesk;
 use crate::entrance::Entrance;
@@ -50,7 +50,8 @@ pub struct AdminEntrance<'h> {
 impl<'h> AdminEntrance<'h> {
     /// At this port.
     pub(crate) fn at(port: AdminPort<'h>) -> AdminEntrance<'h>
-        ensures { result.port ≡ port.entry }
+        ensures port { result.port ≡ port.entry }
+        ensures bytes { result.entrance.patience.bytes ≡ Some 262144 }
     {
         let patience = Patience {
             rest: Some(Duration::from_secs(LONGEST_REST)),

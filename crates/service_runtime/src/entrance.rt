@@ -1,5 +1,7 @@
 //! Where clients come in.
 
+ghost use Rattle.std.specs.Prelude.{◌≡◌, IfSome};
+
 use crate::beat::Signals;
 use crate::visit::{Client, Patience};
 use std::io::ErrorKind;
@@ -27,7 +29,9 @@ pub struct Entrance<'h> {
 impl<'h> Entrance<'h> {
     /// An entrance for clients for whom is waited so long. They come in until the work is over: during a drain too,
     /// when each is told that no more spans are taken.
-    pub fn new(listener: &'h TcpListener, patience: Patience) -> Entrance<'h> {
+    pub fn new(listener: &'h TcpListener, patience: Patience) -> Entrance<'h>
+        ensures { result.patience ≡ patience }
+    {
         Entrance {
             listener,
             turn: Mutex::new(()),
@@ -41,7 +45,9 @@ impl<'h> Entrance<'h> {
     }
 
     /// Waits for the next client. None where the end has come meanwhile, or where none can be taken now.
-    pub fn admit<'s, R: Wait + Clock>(&self, rt: &R, signals: &'s Signals) -> Option<Client<'s>> {
+    pub fn admit<'s, R: Wait + Clock>(&self, rt: &R, signals: &'s Signals) -> Option<Client<'s>>
+        ensures { IfSome result (λ client. client.patience ≡ self.now.patience) }
+    {
         let _turn = self.turn.lock(rt);
         if signals.is_over() {
             return None;
@@ -60,7 +66,9 @@ impl<'h> Entrance<'h> {
     }
 
     /// The client of a stream, with the limit for its reads and writes. None where it doesn't take that.
-    fn limited<'s>(&self, stream: TcpStream, signals: &'s Signals) -> Option<Client<'s>> {
+    fn limited<'s>(&self, stream: TcpStream, signals: &'s Signals) -> Option<Client<'s>>
+        ensures { IfSome result (λ client. client.patience ≡ self.now.patience) }
+    {
         let patience = self.patience;
         // Of requests that came together each reply is a write, and it isn't to wait until the one before it has been
         // acknowledged.

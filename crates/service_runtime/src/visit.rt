@@ -1,6 +1,6 @@
 //! A client's connection, how long it may take, and how many bytes.
 
-ghost use Rattle.std.specs.Prelude.{◌≡◌, ◌+◌, ◌-◌, ◌^◌, min, if◌then◌else◌};
+ghost use Rattle.std.specs.Prelude.{◌≡◌, ◌+◌, ◌-◌, ◌^◌, false, min, if◌then◌else◌};
 ghost use Rattle.service_runtime.specs.Visit.{is_within};
 
 use crate::beat::Signals;
@@ -33,7 +33,9 @@ pub struct Client<'h> {
 
 impl<'h> Client<'h> {
     /// Of whom nothing was read.
-    pub(crate) fn new(stream: TcpStream, patience: Patience, signals: &'h Signals) -> Client<'h> {
+    pub(crate) fn new(stream: TcpStream, patience: Patience, signals: &'h Signals) -> Client<'h>
+        ensures { result.patience ≡ patience }
+    {
         Client {
             stream,
             patience,
@@ -75,7 +77,11 @@ pub struct Visit<'v, R> {
 
 impl<'v, R: Clock> Visit<'v, R> {
     /// That of a client of whom nothing was read.
-    pub fn new(rt: &'v R, client: &'v Client<'v>) -> Visit<'v, R> {
+    pub fn new(rt: &'v R, client: &'v Client<'v>) -> Visit<'v, R>
+        ensures patience { result.patience ≡ client.now.patience }
+        ensures asked { result.is_asked ≡ false }
+        ensures come { result.come ≡ 0 }
+    {
         Visit {
             rt,
             stream: &client.stream,

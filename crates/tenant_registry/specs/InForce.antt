@@ -1,6 +1,6 @@
 -- Settings in force, to which tenants come and which they leave while threads look at them under a lock. This project's
 -- own rule.
-use Rattle.std.specs.Prelude.{◌≡◌, ◌⊎◌, ℕ, List, [], ◌∷◌, ◌++◌, Option, Some, None, Ok, Err, option_map, string_bytes}
+use Rattle.std.specs.Prelude.{◌≡◌, ◌⊎◌, ◌+◌, ◌-◌, ◌^◌, ℕ, min, List, [], ◌∷◌, ◌++◌, Option, Some, None, Ok, Err, option_map, string_bytes}
 use Rattle.otlp_front.specs.Route.{Route, post, refuse, unknown_tenant}
 use Rattle.otlp_front.specs.Seen.{response_for}
 use Rattle.tail_settings.specs.Change.{Change, admit, strike, after, admitted}
@@ -41,6 +41,12 @@ HasBackEnd first tenant address =
 abbrev pub HasName : SettingsData → ℕ → List ℕ → Type 0
 HasName first tenant name =
     (now : SettingsData) × CameOf first now × (option_map (λ t. t.name) (tenant_at now tenant) ≡ Some name)
+
+-- for how long, in milliseconds, spans of a tenant with this section may wait until a batch has them, or the greatest
+-- number of 64 bits if that is less
+abbrev pub longest_wait : Option SectionData → ℕ
+longest_wait (Some section) = min (section.tail_sampling.decision_wait + section.batch.timeout) (2 ^ 64 - 1)
+longest_wait None = 0
 
 -- the tenant of this number, with its section; or that there is no such tenant
 abbrev pub IsTenant : Option SectionData → ℕ → Destination → Type 0

@@ -1,13 +1,13 @@
 //! The settings in force, which all threads share under a lock.
 
-ghost use Rattle.std.specs.Prelude.{◌≡◌, ◌∷◌, ◌++◌, [], Ok, IfOk, IfErr, IfSome, IsSome, map, option_map, string_bytes};
+ghost use Rattle.std.specs.Prelude.{◌≡◌, ◌∷◌, ◌++◌, ℕ, [], Ok, IfOk, IfErr, IfNone, IfSome, IsSome, map, option_map, string_bytes};
 ghost use Rattle.http_edge.specs.Seen.{seen};
-ghost use Rattle.otlp_front.specs.Route.{names_in, route_of};
+ghost use Rattle.otlp_front.specs.Route.{names_in, post, route_of};
 ghost use Rattle.tail_settings.specs.Change.{after, strike};
 ghost use Rattle.tail_settings.specs.Fault.{fault_view};
 ghost use Rattle.tail_settings.specs.Section.{section_view};
 ghost use Rattle.tail_settings.specs.Settings.{document_in, document_view, number_of, settings_view, tenant_at, section_at};
-ghost use Rattle.tenant_registry.specs.InForce.{CameOf, IsLetIn, IsTenant, IsTurnedAway, IsWhere};
+ghost use Rattle.tenant_registry.specs.InForce.{CameOf, IsLetIn, IsTenant, IsTurnedAway, IsWhere, longest_wait};
 ghost use Rattle.tenant_registry.specs.Roster.{entry_of};
 ghost use Rattle.toml.specs.Parse.{parse_document};
 
@@ -60,7 +60,9 @@ impl<J: SettingsNaming> InForce<J> {
     }
 
     /// For how long, in milliseconds, spans of the tenant with this number may wait until a batch has them.
-    pub fn longest_wait(&self, tenant: u32) -> u64 {
+    pub fn longest_wait(&self, tenant: u32) -> u64
+        ensures { result ≡ longest_wait (section_at (settings_view self.now.settings) tenant) }
+    {
         match self.settings.section(tenant) {
             Some(section) => section
                 .tail_sampling
@@ -107,9 +109,11 @@ impl<J: SettingsNaming> InForce<J> {
 
     /// Why the message with this head goes to no tenant, whatever its body is. None where it goes to one.
     pub fn refusal(&self, head: &HttpMessage) -> Option<RouteRefusal>
-        ensures { IfSome result (λ refusal. IsWhere
+        ensures refused { IfSome result (λ refusal. IsWhere
             (route_of (names_in (settings_view self.now.settings)) (seen head.now))
             (settings_view self.now.settings) (Destination.Nowhere refusal)) }
+        ensures none { IfNone result ((tenant : ℕ) × (route_of
+            (names_in (settings_view self.now.settings)) (seen head.now) ≡ post tenant)) }
     {
         match route(&self.settings, head) {
             Route::Post { .. } => None,
