@@ -1,15 +1,17 @@
 -- From what a thread's work is proved to be to what it did to the shards and to the lane.
 use Rattle.std.proofs.Common.{◌≡◌, ℕ, List, [], ◌∷◌, ◌++◌, map, flat_map, Option, option_to_list, refl, sym, ap, subst, ◌∙◌}
 use Rattle.std.specs.List.{AllZip}
-use Rattle.export_edge.specs.Work.{Through, BeatCall, Turn, Turning, jobs_in, Posted, Given, given_for, taken_of, Hands, Handed, Sending}
+use Rattle.export_edge.specs.Work.{Through, BeatCall, Turn, Turning, moment_of, jobs_in, attempts, Posted, Given, given_for, taken_of, Hands, Handed, Sending}
 use Rattle.job_lane.specs.declared.job.Job.{Job}
 use Rattle.job_lane.specs.Lane.{LaneName, SeatLists, new_seat}
 use Rattle.log_positions.specs.Numbered.{items_of}
+use Rattle.service_runtime.specs.Moments.{RisesBy, Rises}
 use Rattle.shared_hub.specs.Logs.{CallerState}
 use Rattle.tail_settings.specs.Settings.{SettingsData}
 use Rattle.trace_service.specs.Jobs.{IsThread, IsApart, turner, sender, idle, admin, AreThreads}
 use Rattle.trace_service.specs.Shown.{OnlyLooks}
 use Rattle.trace_service.specs.Work.{MakesTurn, TakesAnswer, RefusesAnswer}
+use Rattle.trace_service.proofs.Rising.{turns_rise, attempts_rise}
 
 -- what is said of each step is said of all in a row
 through_view : {S T X : Type 0} (view : S → T) (step : S → X → S → Type 0) (told : T → X → T → Type 0)
@@ -48,37 +50,45 @@ apart lane before after empty same =
 
 module _ (first : SettingsData) (shards : ℕ) (lane : LaneName) (fresh : CallerState) where
   pub turner_did : {S B : Type 0} (old new : S) (before after : SeatLists) (beat last : B) (held : Option Job)
-      (caller : S → CallerState) (shard : S → ℕ) (turns : S → Turn → S → Type 0) (calls : B → BeatCall → B → Type 0)
+      (caller : S → CallerState) (shard : S → ℕ) (turns : S → Turn → S → Type 0) (calls : B → BeatCall → B → Type 0) (moment : B → ℕ)
       → caller old ≡ fresh → before ≡ new_seat lane → after.pops ≡ before.pops
       → Turning turns calls old new beat last before.pushes after.pushes held
       → ((s : S) (t : Turn) (next : S) → turns s t next → (shard next ≡ shard s) × MakesTurn (caller s) (caller next) (shard s) t)
+      → ((b : B) (call : BeatCall) (next : B) → calls b call next → RisesBy (moment b) call (moment next))
       → IsThread first shards fresh (caller new) after
-  turner_did old new before after beat last held caller shard turns calls is empty same work says =
+  turner_did old new before after beat last held caller shard turns calls moment is empty same work says rises =
       let pushed : after.pushes ≡ work.pushed = work.pushes ∙ ap (λ (s : SeatLists). s.pushes ++ work.pushed) empty in
       turner (record {
         shard = shard old;
         made = work.made;
         runs = subst (λ c. Through (λ a t b. MakesTurn a b (shard old) t) c work.made (caller new)) is
             (turns_view caller shard turns says (shard old) old work.made new refl work.runs);
+        before = moment beat;
+        last = moment last;
+        moments = subst (λ ts. Rises (moment beat) (map moment_of ts) (moment last)) work.makes (turns_rise moment calls rises work.rounds beat last work.beats);
         held = held;
         jobs = subst (λ ps. flat_map jobs_in work.made ≡ items_of ps ++ option_to_list held) (sym pushed) work.jobs;
         no_pops = same ∙ ap (λ (s : SeatLists). s.pops) empty;
       })
 
   pub sender_did : {B S T : Type 0} (old new : S) (before after : SeatLists) (back_end left : B) (beat last : T)
-      (caller : S → CallerState) (posts : B → Posted → B → Type 0) (takes refuses : S → Given → S → Type 0) (calls : T → BeatCall → T → Type 0)
+      (caller : S → CallerState) (posts : B → Posted → B → Type 0) (takes refuses : S → Given → S → Type 0) (calls : T → BeatCall → T → Type 0) (moment : T → ℕ)
       → caller old ≡ fresh → before ≡ new_seat lane → after.pushes ≡ before.pushes
       → Sending posts takes refuses calls back_end left old new beat last before.pops after.pops
       → ((s : S) (g : Given) (next : S) → takes s g next → TakesAnswer (caller s) (caller next) shards g)
       → ((s : S) (g : Given) (next : S) → refuses s g next → RefusesAnswer (caller s) (caller next) shards g)
+      → ((b : T) (call : BeatCall) (next : T) → calls b call next → RisesBy (moment b) call (moment next))
       → IsThread first shards fresh (caller new) after
-  sender_did old new before after back_end left beat last caller posts takes refuses calls is empty same work taken refused =
+  sender_did old new before after back_end left beat last caller posts takes refuses calls moment is empty same work taken refused rises =
       let popped : after.pops ≡ work.popped = work.pops ∙ ap (λ (s : SeatLists). s.pops ++ work.popped) empty in
       sender (record {
         sent = work.sent;
         handing = subst (λ c. Through (Hands (λ a g b. TakesAnswer a b shards g) (λ a g b. RefusesAnswer a b shards g)) c work.sent (caller new)) is
             (through_view caller (Hands takes refuses) (Hands (λ a g b. TakesAnswer a b shards g) (λ a g b. RefusesAnswer a b shards g))
             (hands_view caller shards takes refuses taken refused) old work.sent new work.handing);
+        before = moment beat;
+        last = moment last;
+        moments = subst (λ hs. Rises (moment beat) (flat_map attempts hs) (moment last)) work.sends (attempts_rise moment calls rises work.rounds beat last work.beats);
         jobs = subst (λ ps. map (λ h. h.post.job) work.sent ≡ items_of ps) (sym popped) work.jobs;
         no_pushes = same ∙ ap (λ (s : SeatLists). s.pushes) empty;
       })

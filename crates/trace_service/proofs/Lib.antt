@@ -10,4 +10,5 @@ pub mod Joined
 pub mod Shown
 pub mod Jobs
 pub mod Received
+pub mod Rising
 pub mod Given

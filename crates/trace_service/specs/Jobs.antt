@@ -1,12 +1,13 @@
 -- What the threads of a service did to the shards and to the lane between them. This project's own rule.
 use Rattle.std.specs.Prelude.{◌≡◌, ℕ, ◌⊎◌, List, [], ◌∷◌, ◌++◌, map, flat_map, Option, Some, option_to_list, slice_get, All, Contains}
 use Rattle.std.specs.List.{AllZip}
-use Rattle.export_edge.specs.Work.{Through, Turn, jobs_in, Hands, Handed}
+use Rattle.export_edge.specs.Work.{Through, Turn, moment_of, jobs_in, Hands, Handed, attempts}
 use Rattle.http_edge.specs.Message.{Request, Response}
 use Rattle.job_lane.specs.declared.job.Job.{Job}
 use Rattle.job_lane.specs.Lane.{SeatLists, IsWholeRun}
 use Rattle.job_lane.specs.Law.{all_pops}
 use Rattle.log_positions.specs.Numbered.{items_of}
+use Rattle.service_runtime.specs.Moments.{Rises}
 use Rattle.shard_machine.specs.Run.{Logged}
 use Rattle.shared_hub.specs.Logs.{CallerState, Seat}
 use Rattle.tail_settings.specs.Settings.{SettingsData}
@@ -15,23 +16,30 @@ use Rattle.trace_service.specs.Post.{IsHandled}
 use Rattle.trace_service.specs.Shown.{OnlyLooks}
 use Rattle.trace_service.specs.Work.{MakesTurn, TakesAnswer, RefusesAnswer}
 
--- A turner, whose caller had made no call: its calls were these turns of one shard, and their jobs, in order, are those
--- that its seat pushed, each once, and one that it may have held at the end.
+-- A turner, whose caller had made no call: its calls were these turns of one shard, none at a moment below the one
+-- before, and their jobs, in order, are those that its seat pushed, each once, and one that it may have held at the
+-- end.
 pub record IsTurner (fresh caller : CallerState) (seat : SeatLists) : Type 0 where
   pub shard : ℕ
   pub made : List Turn
   pub runs : Through (λ old t new. MakesTurn old new shard t) fresh made caller
+  pub before : ℕ
+  pub last : ℕ
+  pub moments : Rises before (map moment_of made) last
   pub held : Option Job
   pub jobs : flat_map jobs_in made ≡ items_of seat.pushes ++ option_to_list held
   pub no_pops : seat.pops ≡ []
 
 -- A sender, whose caller had made no call: for each job that its seat popped, in order, its calls handed in one answer
--- to the shard of the job's own tenant, until it was taken.
+-- to the shard of the job's own tenant, until it was taken, none at a moment below the one before.
 pub record IsSender (shards : ℕ) (fresh caller : CallerState) (seat : SeatLists) : Type 0 where
   pub sent : List Handed
   pub handing : Through
       (Hands (λ old g new. TakesAnswer old new shards g) (λ old g new. RefusesAnswer old new shards g))
       fresh sent caller
+  pub before : ℕ
+  pub last : ℕ
+  pub moments : Rises before (flat_map attempts sent) last
   pub jobs : map (λ h. h.post.job) sent ≡ items_of seat.pops
   pub no_pushes : seat.pushes ≡ []
 

@@ -13,7 +13,7 @@ pub returns-in-Turner : goal.returns-in-Turner
 returns-in-Turner g c =
     let ran = c.run_turner-held in
     turner_did g.J.SettingsNaming.first (length g.J.Naming.slots) g.J.Naming.lane g.J.Naming.fresh c.args.worker.now.context ran.new.source c.args.worker.now.seat ran.new.seat _ _ _
-    (λ w. w.caller) (λ w. w.shard) _ _ c.requires.fresh c.requires.new ran.ensures.same.1 ran.ensures.work.1 (λ s t next is. is)
+    (λ w. w.caller) (λ w. w.shard) _ _ (λ b. b.last) c.requires.fresh c.requires.new ran.ensures.same.1 ran.ensures.work.1 (λ s t next is. is) (λ b call next is. is)
 
 pub returns-in-Receiver : goal.returns-in-Receiver
 returns-in-Receiver g c =
