@@ -17,8 +17,10 @@ import measure
 from measure import free_port, numbers, on, wait_for
 from peers import Measured
 
-# spans a body, requests a second, and for how many seconds
-LOADS = ((100, 400, 5), (1, 2_000, 10))
+# Spans a body, requests a second, for how many seconds, and for how many rows there is room: for fewer than are posted in
+# that time, so that no more stay later, and for so many that none is pushed out undecided where the machine stands still
+# for some seconds.
+LOADS = ((100, 400, 5, 10_000), (1, 2_000, 10, 1_000))
 HEAP = ("env", "MALLOC_ARENA_MAX=1")
 
 
@@ -40,9 +42,10 @@ def posted(words, service, size, rate, seconds):
 def stays(words, program, folder, load, *options):
     """How many bytes stay of a span."""
     words.program, port = program, free_port()
+    *load, rows = load
     with measure.BackEnd(words.others, words.load) as back_end:
         settings = measure.settings(port, back_end.port, 1, 1).replace("shards = 2", "shards = 1").replace(
-            "decision_wait_ms = 1000", "decision_wait_ms = 100").replace("num_traces = 1000000", "num_traces = 1000")
+            "decision_wait_ms = 1000", "decision_wait_ms = 100").replace("num_traces = 1000000", f"num_traces = {rows}")
         with Measured(words, folder, port, settings, options, under=HEAP) as service:
             (_, before), (spans, after) = (posted(words, service, *load) for _ in range(2))
             return (after - before) / spans
