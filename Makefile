@@ -1,4 +1,4 @@
-.PHONY: test replay serve install deb
+.PHONY: test replay serve install uninstall deb
 
 PROGRAM = crates/trace_collector_program
 
@@ -77,14 +77,21 @@ BIN = $(PREFIX)/bin
 MAN = $(PREFIX)/share/man/man1
 UNITS = $(PREFIX)/lib/systemd/system
 LIBEXEC = $(PREFIX)/libexec/nimchaes
-EXAMPLES = $(PREFIX)/share/doc/nimchaes/examples
-PAGES = $(PREFIX)/share/doc/nimchaes/docs
+DOCUMENTS = $(PREFIX)/share/doc/nimchaes
+EXAMPLES = $(DOCUMENTS)/examples
+PAGES = $(DOCUMENTS)/docs
+PICTURES = $(PAGES)/pictures
+
+# What stands in these folders under its own name.
+EXAMPLES_TO_READ = trace.pb prometheus.yml alerts.yml nginx.conf
+OPERATORS_PAGES = $(addsuffix .md,OPERATING ADMIN METRICS TROUBLE SIZING CONNECTING SCALING SETTINGS FAULTS HTTP SCRIPT)
+OPERATORS_PICTURES = admin-light.png admin-dark.png admin-narrow.png
 
 # Puts the program that is built, its manual page, its unit for systemd with what asks it to drain, examples to start from and
 # operators' pages below DESTDIR. It proves and builds nothing, so that root needs no toolchain.
 install:
 	@test -x $(BUILT) || { echo 'make: $(BUILT) is not there yet: make trace_collector builds it' >&2; exit 1; }
-	install -d $(DESTDIR)$(BIN) $(DESTDIR)$(MAN) $(DESTDIR)$(UNITS) $(DESTDIR)$(LIBEXEC) $(DESTDIR)$(EXAMPLES) $(DESTDIR)$(PAGES)
+	install -d $(addprefix $(DESTDIR),$(BIN) $(MAN) $(UNITS) $(LIBEXEC) $(EXAMPLES) $(PAGES) $(PICTURES))
 	install -m 755 $(BUILT) $(DESTDIR)$(BIN)/trace_collector
 	install -m 755 packaging/drain $(DESTDIR)$(LIBEXEC)
 	python3 packaging/manual.py $(abspath $(BUILT)) > $(DESTDIR)$(MAN)/trace_collector.1
@@ -92,10 +99,19 @@ install:
 	  > $(DESTDIR)$(UNITS)/nimchaes.service
 	chmod 644 $(DESTDIR)$(MAN)/trace_collector.1 $(DESTDIR)$(UNITS)/nimchaes.service
 	install -m 644 examples/start.toml $(DESTDIR)$(EXAMPLES)/settings.toml
-	install -m 644 examples/trace.pb examples/prometheus.yml examples/alerts.yml examples/nginx.conf $(DESTDIR)$(EXAMPLES)
+	install -m 644 $(addprefix examples/,$(EXAMPLES_TO_READ)) $(DESTDIR)$(EXAMPLES)
 	install -m 755 examples/collector-run $(DESTDIR)$(EXAMPLES)
-	install -m 644 $(addprefix docs/,$(addsuffix .md,OPERATING ADMIN METRICS TROUBLE SIZING CONNECTING SCALING SETTINGS \
-	  FAULTS HTTP SCRIPT)) $(DESTDIR)$(PAGES)
+	install -m 644 $(addprefix docs/,$(OPERATORS_PAGES)) $(DESTDIR)$(PAGES)
+	install -m 644 $(addprefix docs/pictures/,$(OPERATORS_PICTURES)) $(DESTDIR)$(PICTURES)
+
+# Removes these files, and of the folders those that are this program's alone and then empty. Settings, and whatever else an
+# operator put somewhere, stay. Its variables are those of the `install` before.
+uninstall:
+	rm -f $(addprefix $(DESTDIR),$(BIN)/trace_collector $(MAN)/trace_collector.1 $(UNITS)/nimchaes.service $(LIBEXEC)/drain)
+	rm -f $(addprefix $(DESTDIR)$(EXAMPLES)/,settings.toml $(EXAMPLES_TO_READ) collector-run)
+	rm -f $(addprefix $(DESTDIR)$(PAGES)/,$(OPERATORS_PAGES)) $(addprefix $(DESTDIR)$(PICTURES)/,$(OPERATORS_PICTURES))
+	for folder in $(addprefix $(DESTDIR),$(LIBEXEC) $(PICTURES) $(PAGES) $(EXAMPLES) $(DOCUMENTS)); do \
+	  test ! -d $$folder || rmdir --ignore-fail-on-non-empty $$folder; done
 
 # A package for Debian of all that, in out/.
 deb: trace_collector

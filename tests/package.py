@@ -28,7 +28,8 @@ FILES = {"bin/trace_collector": 0o755, "share/man/man1/trace_collector.1": 0o644
          "share/doc/nimchaes/examples/collector-run": 0o755,
          **{f"share/doc/nimchaes/docs/{page}.md": 0o644 for page in (
              "OPERATING", "ADMIN", "METRICS", "TROUBLE", "SIZING", "CONNECTING", "SCALING", "SETTINGS", "FAULTS", "HTTP",
-             "SCRIPT")}}
+             "SCRIPT")},
+         **{f"share/doc/nimchaes/docs/pictures/admin-{way}.png": 0o644 for way in ("light", "dark", "narrow")}}
 
 
 def is_there(*names):
@@ -46,12 +47,17 @@ def said(*words, **how):
     return done.returncode, done.stdout
 
 
-def installed(folder, **variables):
-    """Where `make install` put it, as a folder that holds what it would put at `/`."""
+def made(target, folder, **variables):
+    """Has `make` put it, or remove it, below a folder that stands for `/`."""
     words = [f"{name}={value}" for name, value in {"BUILT": talk.program, "DESTDIR": folder, **variables}.items()]
-    status, told = said("make", "--silent", "-C", str(HERE), "install", *words, umask=0o077)
+    status, told = said("make", "--silent", "-C", str(HERE), target, *words, umask=0o077)
     if status != 0:
         raise RuntimeError(told)
+
+
+def installed(folder, **variables):
+    """Where `make install` put it, as a folder that holds what it would put at `/`."""
+    made("install", folder, **variables)
     return Path(folder)
 
 
@@ -67,6 +73,22 @@ def in_place(folder):
     missing = said("make", "--silent", "-C", str(HERE), "install", "BUILT=missing", f"DESTDIR={folder}/none")
     check("what isn't built", (missing[0], "make trace_collector" in missing[1]), (2, True))
     check("is not put anywhere", Path(folder, "none").exists(), False)
+
+
+def removed(folder):
+    """`make uninstall` removes what `make install` put, and nothing of an operator's, and does so twice."""
+    root = installed(folder, PREFIX="/opt/nimchaes")
+    own = ("etc/nimchaes/settings.toml", "etc/systemd/system/nimchaes.service.d/override.conf", "opt/nimchaes/bin/other",
+           "opt/nimchaes/share/doc/nimchaes/examples/mine.toml")
+    for name in own:
+        (root / name).parent.mkdir(parents=True, exist_ok=True)
+        (root / name).touch(mode=0o600)
+    for often in ("once", "twice"):
+        made("uninstall", folder, PREFIX="/opt/nimchaes")
+        check(f"what stays, removed {often}", set(files_below(root)), set(own))
+    (root / own[-1]).unlink()
+    made("uninstall", folder, PREFIX="/opt/nimchaes")
+    check("folders of its own", [str(found) for found in (root / "opt/nimchaes").rglob("nimchaes")], [])
 
 
 def plain(page):
@@ -223,7 +245,7 @@ def package(folder):
         check("lintian", [line for line in told.splitlines() if line.startswith("E")], [])
 
 
-TESTS = {test.__name__: test for test in (in_place, manual, unit_runs, unit_heaps, unit_verified, package)}
+TESTS = {test.__name__: test for test in (in_place, removed, manual, unit_runs, unit_heaps, unit_verified, package)}
 
 
 def main():
