@@ -120,12 +120,12 @@ pub record IsValue (room d : ℕ) (text : List ℕ) (member : Option Entry) (siz
   pub known : IfSome member IsMember
   pub read : walk (any_step_in room) d no_value text ≡ (member_of room member >>= λ v. Ok (keep_any v kept))
 
--- these are the parts of an attribute's text
+-- these are the parts of an attribute's text; of its value, those of the member that counts, if one was looked for
 pub record HasParts (room : ℕ) (text : List ℕ) (parts : Parts) : Type 0 where
   pub some : 0 < room
   pub pair : IsPair (101 - room) text parts.pair.key.now parts.pair.value.now parts.pair.has_value parts.pair.unknown
-  pub value : IsValue (room - 1 - 1) (101 - (room - 1)) parts.pair.value.now (option_map entry parts.chosen.member)
-      parts.chosen.unknown
+  pub value : (member : Entry) → option_map entry parts.chosen.member ≡ Some member
+      → IsValue (room - 1 - 1) (101 - (room - 1)) parts.pair.value.now (Some member) parts.chosen.unknown
 
 -- what a field of wire type `LEN` holds
 abbrev pub held : Datum → List ℕ

@@ -387,6 +387,34 @@ pub fn parts_of(text: &[u8], room: u32) -> Option<Parts<'_>>
     Some(Parts { pair, chosen })
 }
 
+/// Whether the value begins with an array or a list.
+#[inline(always)]
+pub fn holds_others(value: &[u8]) -> bool {
+    matches!(value.first(), Some(0x2a | 0x32))
+}
+
+/// The parts of the attribute that are to be put. No member is looked for in a value that begins with an array or a
+/// list: it is looked into as it is put.
+#[inline(always)]
+fn parts_to_put(text: &[u8], room: u32) -> Option<Parts<'_>>
+    ensures { IfSome result (λ parts. HasParts room text.now parts) }
+{
+    if room == 0 {
+        return None;
+    }
+    let depth = 101u32.saturating_sub(room);
+    let pair = pair_in(text, depth)?;
+    let chosen = if holds_others(pair.value) {
+        Chosen {
+            member: None,
+            unknown: 0,
+        }
+    } else {
+        value_in(pair.value, room - 1)?
+    };
+    Some(Parts { pair, chosen })
+}
+
 /// The parts of the attribute, where nothing else is to be put in them: `put_parts` puts such, whatever they hold.
 #[inline(always)]
 pub fn plain_parts(text: &[u8], room: u32) -> Option<Parts<'_>>
@@ -504,7 +532,7 @@ pub fn put_respelled(
     ensures { IfOk result (λ whole. whole ≡ true
         → FieldAlike key_value_step no_key_value room 9 text.now copy.old.items copy.new.items) }
 {
-    let Some(parts) = parts_of(text, room) else {
+    let Some(parts) = parts_to_put(text, room) else {
         let whole = put_nested(alloc, copy, text, room)?;
         return Ok(whole);
     };

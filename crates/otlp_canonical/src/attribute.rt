@@ -6,7 +6,7 @@ ghost use Rattle.otlp_canonical.specs.Attribute.{ValueLast};
 ghost use Rattle.otlp_canonical.specs.Inner.{FieldAlike};
 ghost use Rattle.otlp_read.specs.AnyValue.{no_key_value, key_value_step};
 
-use crate::anew::put_respelled;
+use crate::anew::{holds_others, put_respelled};
 use crate::field::{bytes_field, short_field};
 use crate::number::{content, split};
 use crate::value::{any, scalar};
@@ -191,11 +191,6 @@ pub fn is_respelled(text: &[u8], has_long_length: bool, span: usize, room: u32) 
 #[inline(always)]
 pub fn stays_as_it_is(text: &[u8], span: usize, room: u32) -> bool {
     begins_plainly(text) || !is_respelled(text, false, span, room)
-}
-
-/// Whether the value is an array or a list.
-fn holds_others(value: &[u8]) -> bool {
-    matches!(value.first(), Some(0x2a | 0x32))
 }
 
 /// What stands before an attribute's value and the value, where that is the second field and the last; none where its
