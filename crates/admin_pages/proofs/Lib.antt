@@ -4,3 +4,4 @@ pub mod Numbers
 pub mod Pieces
 pub mod Read
 pub mod Asked
+pub mod Told

@@ -39,9 +39,9 @@ abbrev pub standing_of : ServiceFigures → List MeasureData
 standing_of f =
     counter (codes "otelcol_process_uptime_seconds_total") (codes "Seconds since the start") f.uptime
     ∷ gauge (codes "nimchaes_tenants") (codes "Tenants that are present") f.tenants
-    ∷ gauge (codes "nimchaes_draining") (codes "Whether no more spans are taken") (if f.is_draining then 1 else 0)
+    ∷ gauge (codes "nimchaes_draining") (codes "Whether a drain was asked for or has begun") (if f.is_draining then 1 else 0)
     ∷ counter (codes "nimchaes_memory_refusals_total")
-    (codes "Attempts of posts, turns, answers and lines of the input that were refused memory") f.counts.memory_refusals
+    (codes "How often a post or a step or a sender of a batch was refused memory") f.counts.memory_refusals
     ∷ []
 
 -- how batches leave it

@@ -1,7 +1,15 @@
 //! What an operator is shown of a service: pages over plain figures.
+//!
+//! [`admin_route`] says what a request asks for, and the others spell what it is answered: a tenant's figures in JSON
+//! or in a report's line, the service's, the settings in force, and all of them as metrics. Each is the text that
+//! `specs/` has of the figures. Names of metrics are by the conventions of OpenMetrics 1.0, and JSON is RFC 8259's
+//! (docs/ADMIN.md, docs/METRICS.md).
+//!
+//! It stands on `tail_settings` for the settings that it shows and, in `specs/`, on `drop_ledger` for what a tenant's
+//! counters are; numbers are spelled by the library's `itoa`.
 #![tactic(auto)]
 
-ghost use Rattle.admin_pages.specs.Law.{TenantsAreRead, TenantsAreRetired};
+ghost use Rattle.admin_pages.specs.Law.{EachHasItsName, EachHasItsWord, TenantsAreRead, TenantsAreRetired};
 
 mod figures;
 mod json;
@@ -30,4 +38,11 @@ pub use crate::token::same_token;
 pub fn tenants_are_asked_for()
     ensures figures { TenantsAreRead }
     ensures retired { TenantsAreRetired }
+{}
+
+/// Each figure of a tenant is told once, by a word and under a metric's name that no other has: a law over the
+/// definitions.
+pub fn each_figure_is_told_once()
+    ensures words { EachHasItsWord }
+    ensures names { EachHasItsName }
 {}

@@ -15,7 +15,7 @@ pub enum AdminRoute<'p> {
     Metrics,
     /// `GET /healthz`: whether the service runs.
     Health,
-    /// `GET /readyz`: whether it takes spans.
+    /// `GET /readyz`: whether it is to get spans, for which no drain may have been asked.
     Readiness,
     /// `POST /drain`: that it ends in order.
     Drain,

@@ -28,7 +28,8 @@ pub struct StatusCounts {
 /// What a service counted since its start. Some figures are of other moments than others.
 #[derive(Clone, Copy, Debug)]
 pub struct ServiceCounts {
-    /// Attempts of posts, turns, answers and lines of the input that were refused memory.
+    /// How often memory was refused to a post, to another step of a shard, to a line of the input but `add`, or to a
+    /// sender before it posts, which counts once a millisecond while it waits.
     pub memory_refusals: u64,
     pub connections_open: u64,
     /// All that a receiver took, those that are open among them.
@@ -141,12 +142,12 @@ fn standing(figures: &ServiceFigures) -> [Measure; 4]
         ),
         gauge(
             "nimchaes_draining",
-            "Whether no more spans are taken",
+            "Whether a drain was asked for or has begun",
             if figures.is_draining { 1 } else { 0 },
         ),
         counter(
             "nimchaes_memory_refusals_total",
-            "Attempts of posts, turns, answers and lines of the input that were refused memory",
+            "How often a post or a step or a sender of a batch was refused memory",
             figures.counts.memory_refusals,
         ),
     ]

@@ -1,0 +1,58 @@
+-- Each figure of a tenant has its word and its metric's name: the lists are gone through.
+use Rattle.std.proofs.Common.{refl}
+use Rattle.admin_pages.specs.Law.{EachHasItsName, EachHasItsWord}
+use Rattle.admin_pages.specs.declared.tenant_metric.TenantMetric.TheVariants.{Accepted, Undecided, Pending, Queued, Active, Exported, NotSampled, TooEarly, QueueFull, RetryExhausted, BackEndRefused, BackEndRejected, Invalid, OverBudget, Rows, UndecidedRows, RowsLimit, SpansLimit, QueuedBatches, QueuedBatchesLimit, QueuedBytes, QueuedBytesLimit, Ready, BackEndStatus, BackEndStatusMoment}
+
+pub each_has_its_word : EachHasItsWord
+each_has_its_word Accepted = refl
+each_has_its_word Undecided = refl
+each_has_its_word Pending = refl
+each_has_its_word Queued = refl
+each_has_its_word Active = refl
+each_has_its_word Exported = refl
+each_has_its_word NotSampled = refl
+each_has_its_word TooEarly = refl
+each_has_its_word QueueFull = refl
+each_has_its_word RetryExhausted = refl
+each_has_its_word BackEndRefused = refl
+each_has_its_word BackEndRejected = refl
+each_has_its_word Invalid = refl
+each_has_its_word OverBudget = refl
+each_has_its_word Rows = refl
+each_has_its_word UndecidedRows = refl
+each_has_its_word RowsLimit = refl
+each_has_its_word SpansLimit = refl
+each_has_its_word QueuedBatches = refl
+each_has_its_word QueuedBatchesLimit = refl
+each_has_its_word QueuedBytes = refl
+each_has_its_word QueuedBytesLimit = refl
+each_has_its_word Ready = refl
+each_has_its_word BackEndStatus = refl
+each_has_its_word BackEndStatusMoment = refl
+
+pub each_has_its_name : EachHasItsName
+each_has_its_name Accepted = refl
+each_has_its_name Undecided = refl
+each_has_its_name Pending = refl
+each_has_its_name Queued = refl
+each_has_its_name Active = refl
+each_has_its_name Exported = refl
+each_has_its_name NotSampled = refl
+each_has_its_name TooEarly = refl
+each_has_its_name QueueFull = refl
+each_has_its_name RetryExhausted = refl
+each_has_its_name BackEndRefused = refl
+each_has_its_name BackEndRejected = refl
+each_has_its_name Invalid = refl
+each_has_its_name OverBudget = refl
+each_has_its_name Rows = refl
+each_has_its_name UndecidedRows = refl
+each_has_its_name RowsLimit = refl
+each_has_its_name SpansLimit = refl
+each_has_its_name QueuedBatches = refl
+each_has_its_name QueuedBatchesLimit = refl
+each_has_its_name QueuedBytes = refl
+each_has_its_name QueuedBytesLimit = refl
+each_has_its_name Ready = refl
+each_has_its_name BackEndStatus = refl
+each_has_its_name BackEndStatusMoment = refl
