@@ -3,7 +3,7 @@ use Rattle.std.proofs.Common.{◌≡◌, ◌≢◌, ℕ, ◌≤◌, Bool, true, 
 use Rattle.httparse.specs.Grammar.{RequestHead}
 use Rattle.http_edge.specs.declared.head.Head.{Head}
 use Rattle.http_edge.specs.declared.wire.EdgeFault.{EdgeFault}
-use Rattle.http_edge.specs.declared.wire.EdgeFault.TheVariants.{ReadFailed, OutOfMemory}
+use Rattle.http_edge.specs.declared.wire.EdgeFault.TheVariants.{ReadFailed, WriteFailed, OutOfMemory}
 use Rattle.http_edge.specs.Message.{Request, Response, Message, Frame, sized, chunked, HasBody, HasMessage, request_of, with_body, closes, expects, is_bodiless, max_body}
 use Rattle.http_edge.specs.Talk.{Exchange, exchange_text, interim_text, Asks, told, Runs, Talks, Due, Lacks, Begins, MayInterim, interim, replying, at_reply, breaking, lacking}
 use Rattle.http_edge.specs.Reply.{continue_text, is_for_no_memory, no_memory_text}
@@ -169,16 +169,17 @@ over_after {b0 = b0} {read = read} since p e q = record {
   end = λ f. since (q.end f);
 }
 
-broken_after : {form : RefusalForm} {H : Type 0} {answers : H → Request → Response → H
+broken_after : {form : RefusalForm} {H : Type 0} {fault : EdgeFault} {answers : H → Request → Response → H
     → Type 0} {old new : H} {L : Type 0} {gives takes : L → L → List ℕ → Type 0} {l0 l1 l2 : L} {b0 b1 read : List ℕ} → Moves gives takes l0 l1 read []
-    → b1 ≡ b0 ++ read → IsBrokenOff form answers old new gives takes l1 l2 b1
-    → IsBrokenOff form answers old new gives takes l0 l2 b0
+    → b1 ≡ b0 ++ read → IsBrokenOff form fault answers old new gives takes l1 l2 b1
+    → IsBrokenOff form fault answers old new gives takes l0 l2 b0
 broken_after {b0 = b0} {read = read} p e q = record {
   read = read ++ q.read;
   written = q.written;
   moves = then_to p q.moves refl refl;
   missing = q.missing;
   due = rw (← append_assoc b0 read q.read, ← e) q.due;
+  whole = q.whole;
 }
 
 short_after : {bodiless : Bool} {H : Type 0} {answers : H → Request → Response → H
@@ -209,11 +210,18 @@ pub cut_by : {form : RefusalForm} {H : Type 0} {fault other : EdgeFault} {bodile
 cut_by {form = form} {bodiless = bodiless} {answers = answers} {old = old} {new = new} {gives = gives} {takes = takes} {first = first} {last = last} {before = before} p e =
     subst (λ f. IsCut form f bodiless answers old new gives takes first last before) e p
 
+-- what is no failed read, and no want of memory, is a failed write
+pub write_failed : (fault : EdgeFault) → fault ≢ ReadFailed → fault ≢ OutOfMemory → fault ≡ WriteFailed
+write_failed ReadFailed read memory = absurd (read refl)
+write_failed WriteFailed read memory = refl
+write_failed OutOfMemory read memory = absurd (memory refl)
+
 -- a fault of the line broke the talk off
 pub breaks : {form : RefusalForm} {H : Type 0} {answers : H → Request → Response → H → Type 0} {old new : H} {fault : EdgeFault} {read : List ℕ}
-    (written missing : List ℕ) → fault ≢ OutOfMemory → Talks form answers (Due form answers) old read new (written ++ missing)
+    (written missing : List ℕ) → fault ≢ OutOfMemory → (fault ≢ WriteFailed → missing ≡ [])
+    → Talks form answers (Due form answers) old read new (written ++ missing)
     → Begins form fault answers old read new written
-breaks written missing line t = (
+breaks written missing line whole t = (
   missing,
   record {
     exchanges = t.exchanges;
@@ -225,12 +233,12 @@ breaks written missing line t = (
     due = breaking t.last line t.due;
     writes = t.writes;
   },
-  λ is. absurd (line is),
+  whole,
 )
 
 -- after want of memory this much was written of the reply that says so
 pub tells : (form : RefusalForm) (bodiless : Bool) {H : Type 0} {answers : H → Request → Response → H → Type 0} {old new : H} {fault : EdgeFault} {read written : List ℕ}
-    (front missing : List ℕ) → fault ≢ ReadFailed → no_memory_text form bodiless ≡ front ++ missing → (fault ≡ OutOfMemory → missing ≡ [])
+    (front missing : List ℕ) → fault ≢ ReadFailed → no_memory_text form bodiless ≡ front ++ missing → (fault ≢ WriteFailed → missing ≡ [])
     → Talks form answers (λ mid rest last_state text. Lacks answers mid rest last_state bodiless text) old read new written
     → Begins form fault answers old read new (written ++ front)
 tells form bodiless {written = written} front missing no_read parts whole t = (

@@ -20,7 +20,7 @@ use Rattle.http_edge.specs.declared.body.Pieces.{Pieces}
 use Rattle.http_edge.specs.declared.body.Pieces.TheVariants as Piece
 use Rattle.http_edge.specs.declared.wire.EdgeFault.{EdgeFault}
 use Rattle.http_edge.specs.declared.wire.Watch.{Watch}
-use Rattle.http_edge.specs.declared.wire.EdgeFault.TheVariants.{OutOfMemory}
+use Rattle.http_edge.specs.declared.wire.EdgeFault.TheVariants.{ReadFailed, OutOfMemory}
 use Rattle.http_edge.specs.declared.chunks.ChunkedState.{ChunkedState as PartCode}
 use Rattle.http_edge.specs.declared.chunks.ChunkedState.TheVariants.{Line, Bytes, Trailer}
 use Rattle.http_edge.specs.declared.chunks.Piece.{Piece as PieceCode}
@@ -231,8 +231,8 @@ pub record IsOver (form : RefusalForm) {H : Type 0} (answers : H → Request →
   pub ends : Ends form answers old (before ++ read) new text over
   pub end : over ≡ false → ended
 
--- a failed call of the line broke it off
-pub record IsBrokenOff (form : RefusalForm) {H : Type 0} (answers : H → Request → Response → H
+-- a failed call of the line broke it off, a read only once all that was due was written
+pub record IsBrokenOff (form : RefusalForm) {H : Type 0} (fault : EdgeFault) (answers : H → Request → Response → H
     → Type 0) (old new : H) {L : Type 0} (gives takes : L → L → List ℕ → Type 0) (first last : L) (before : List ℕ)
     : Type 0 where
   pub read : List ℕ
@@ -240,13 +240,15 @@ pub record IsBrokenOff (form : RefusalForm) {H : Type 0} (answers : H → Reques
   pub moves : Moves gives takes first last read written
   pub missing : List ℕ
   pub due : Due form answers old (before ++ read) new (written ++ missing)
+  pub whole : fault ≡ ReadFailed → missing ≡ []
 
 -- the same of a whole talk
-abbrev pub BreaksOff : RefusalForm → {H : Type 0} → (H → Request → Response → H → Type 0) → (old new : H)
+abbrev pub BreaksOff : RefusalForm → {H : Type 0} → EdgeFault → (H → Request → Response → H → Type 0) → (old new : H)
     → {L : Type 0} → (gives takes : L → L → List ℕ → Type 0) → (first last : L) → Type 0
-BreaksOff form answers old new gives takes first last = (read : List ℕ) × (written : List ℕ)
+BreaksOff form fault answers old new gives takes first last = (read : List ℕ) × (written : List ℕ)
     × Moves gives takes first last read written
     × (missing : List ℕ) × Talks form answers (Due form answers) old read new (written ++ missing)
+    × (fault ≡ ReadFailed → missing ≡ [])
 
 -- want of memory ended it, nothing was said of that, and what says it has a body or not
 pub record IsShort {H : Type 0} (bodiless : Bool) (answers : H → Request → Response → H
@@ -269,5 +271,5 @@ StopsShort form bodiless answers old new gives takes first last = (read : List �
 pub record IsCut (form : RefusalForm) {H : Type 0} (fault : EdgeFault) (bodiless : Bool)
     (answers : H → Request → Response → H → Type 0) (old new : H) {L : Type 0} (gives takes : L → L → List ℕ → Type 0)
     (first last : L) (before : List ℕ) : Type 0 where
-  pub broken : fault ≢ OutOfMemory → IsBrokenOff form answers old new gives takes first last before
+  pub broken : fault ≢ OutOfMemory → IsBrokenOff form fault answers old new gives takes first last before
   pub short : fault ≡ OutOfMemory → IsShort bodiless answers old new gives takes first last before

@@ -26,6 +26,8 @@ pub fn read_answer<L: Line>(alloc: Global, line: &mut L) -> Result<Answer, EdgeF
         × Moves L.gives L.takes line.old line.new read []) }
     // One read at most gave no byte: nothing is read behind it.
     ensures stops { L.ends line.new ≤ L.ends line.old + 1 }
+    // Without a fault no call of the line has failed.
+    ensures kept { OnOk result (L.failed line.new ≡ L.failed line.old) }
     ensures failed { result ≡ Err EdgeFault.ReadFailed
         → HasFailed (L.failed line.old) (L.failed line.new) }
     ensures no_write { result ≢ Err EdgeFault.WriteFailed }
@@ -102,6 +104,7 @@ fn read_after<L: Line>(
         × Moves L.gives L.takes line.old line.new read []) }
     ensures ends { L.ends line.old ≤ L.ends line.new }
     ensures stops { L.ends line.new ≤ L.ends line.old + 1 }
+    ensures kept { OnOk result (L.failed line.new ≡ L.failed line.old) }
     ensures failed { result ≡ Err EdgeFault.ReadFailed
         → HasFailed (L.failed line.old) (L.failed line.new) }
     ensures no_write { result ≢ Err EdgeFault.WriteFailed }

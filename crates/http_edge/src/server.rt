@@ -46,12 +46,16 @@ pub fn serve<T: Threads + Sync, L: Line, H: Handler>(
     // The bytes written are the replies to the messages in the bytes read.
     ensures talk { OnOk result (Converses H.refusals H.answers handler.old handler.new
         L.gives L.takes L.ends line.old line.new) }
-    // After a fault they are a beginning of that, and after want of memory all of it, with a reply that says so.
+    // After a failed write they are a beginning of that, after a failed read all of it, and after want of memory too,
+    // with a reply that says so.
     ensures fault { IfErr result (λ fault. (read : List ℕ) × (written : List ℕ)
         × Moves L.gives L.takes line.old line.new read written
         × Begins H.refusals fault H.answers handler.old read handler.new written) }
     // One read at most gave no byte: nothing is read behind it.
     ensures stops { L.ends line.new ≤ L.ends line.old + 1 }
+    // Without a fault, and where memory alone was refused, no call of the line has failed.
+    ensures kept { OnOk result (L.failed line.new ≡ L.failed line.old) }
+    ensures unfailed { result ≡ Err EdgeFault.OutOfMemory → L.failed line.new ≡ L.failed line.old }
     ensures read { result ≡ Err EdgeFault.ReadFailed
         → HasFailed (L.failed line.old) (L.failed line.new) }
     ensures write { result ≡ Err EdgeFault.WriteFailed
@@ -84,11 +88,12 @@ fn converse<T: Threads + Sync, L: Line, H: Handler>(
     ensures talk { OnOk result (Converses H.refusals H.answers handler.old handler.new
         L.gives L.takes L.ends line.old line.new) }
     ensures broken { IfErr result (λ fault. fault ≢ OutOfMemory
-        → BreaksOff H.refusals H.answers handler.old handler.new L.gives L.takes
+        → BreaksOff H.refusals fault H.answers handler.old handler.new L.gives L.takes
         line.old line.new) }
     ensures short { result ≡ Err OutOfMemory → StopsShort H.refusals bodiless.new H.answers
         handler.old handler.new L.gives L.takes line.old line.new }
     ensures stops { L.ends line.new ≤ L.ends line.old + 1 }
+    ensures kept { OnOk result (L.failed line.new ≡ L.failed line.old) }
     ensures unfailed { result ≡ Err EdgeFault.OutOfMemory → L.failed line.new ≡ L.failed line.old }
     ensures read { result ≡ Err EdgeFault.ReadFailed
         → HasFailed (L.failed line.old) (L.failed line.new) }

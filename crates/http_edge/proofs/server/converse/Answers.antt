@@ -67,6 +67,7 @@ returns-in_err-exchange-clause-broken g c =
         due = cut.due;
         writes = append_assoc (told g.H.Handler.refusals inv.exchanges) cut.written cut.missing;
       },
+      λ is. cut.whole (cc),
     ))
 
 pub returns-in_err-exchange-clause-short : goal.returns-in_err-exchange-clause-short

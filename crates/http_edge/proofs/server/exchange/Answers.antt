@@ -14,7 +14,7 @@ returns-in_err-read_head-clause-on_error g c =
     let p = err_from_is_err_and c.from_residual.result c.from_residual.ensures.1 in
     let same = p.2 in
     rw p.1 (record {
-      broken = λ _. record { read = e.0; written = []; moves = e.1; missing = []; due = nothing refl };
+      broken = λ _. record { read = e.0; written = []; moves = e.1; missing = []; due = nothing refl; whole = λ _. refl };
       short = λ lack.
           let l = c.in_err-read_head.ensures.lacks (cc) in
           record { read = l.0; written = []; moves = l.1; lacks = rw (← l.2) (at_front l.3 refl) };
@@ -36,6 +36,7 @@ returns-in_err-refuse-in-Refuse-clause-on_error g c =
         moves = then_to e.1 f.3 (append-nil _) refl;
         missing = f.1;
         due = rw (← e.2, ← f.2) (refusing _ (at_head _ _ begin) refl);
+        whole = λ is. absurd (c.in_err-refuse-in-Refuse.ensures.no_read (cc));
       };
       short = λ lack. record {
         read = e.0;
@@ -60,6 +61,7 @@ returns-in_err-refuse-in-TooMany-clause-on_error g c =
         moves = then_to e.1 f.3 (append-nil _) refl;
         missing = f.1;
         due = rw (← e.2, ← f.2) (refusing _ (many_lines begin.0 begin.1 begin.2) refl);
+        whole = λ is. absurd (c.in_err-refuse-in-TooMany.ensures.no_read (cc));
       };
       short = λ lack. record {
         read = e.0;

@@ -23,6 +23,7 @@ returns-in_err-interim-clause-on_error g c =
         missing = e.1;
         due = due_interim g.H.Handler.answers
             c.args.handler.now [] e.0 e.1 c.requires.1 e.2;
+        whole = λ is. absurd (c.in_err-interim.ensures.no_read (cc));
       };
       short = λ lack. absurd (c.in_err-interim.ensures.no_memory (cc));
     })
@@ -41,6 +42,7 @@ returns-in_err-read_body-clause-on_error g c =
         missing = [];
         due = due_interim g.H.Handler.answers c.args.handler.now e.0 (interim_text c.requires.0) [] is (ap (λ (b : Bool).
             cond b continue_text []) is.says.expects ∙ sym (append-nil _));
+        whole = λ _. refl;
       };
       short = λ _. record {
         read = e.0;
@@ -70,6 +72,7 @@ returns-in_err-refuse-in-TooLong-clause-on_error g c =
         due = subst (Due g.H.Handler.refusals g.H.Handler.answers c.args.handler.now (c.args.buffer.now.items ++ e.0) c.args.handler.now)
             (cut_text (interim_text c.requires.0) f.0 f.1 (ap (λ (b : Bool). refusal_text g.H.Handler.refusals b 413) (sym is.says.bodiless)
             ∙ f.2)) (refusing _ bad refl);
+        whole = λ fault_is. absurd (c.in_err-refuse-in-TooLong.ensures.no_read (cc));
       };
       short = λ lack. record {
         read = e.0;
@@ -100,6 +103,7 @@ returns-in_err-refuse-in-Bad-clause-on_error g c =
         due = subst (Due g.H.Handler.refusals g.H.Handler.answers c.args.handler.now (c.args.buffer.now.items ++ e.0) c.args.handler.now)
             (cut_text (interim_text c.requires.0) f.0 f.1 (ap (λ (b : Bool). refusal_text g.H.Handler.refusals b 400) (sym is.says.bodiless)
             ∙ f.2)) (refusing _ bad refl);
+        whole = λ fault_is. absurd (c.in_err-refuse-in-Bad.ensures.no_read (cc));
       };
       short = λ lack. record {
         read = e.0;
@@ -131,6 +135,7 @@ returns-in_err-goes-in-Whole-clause-on_error g c =
         moves = all_moves c.args.head.expects h is.says.expects c.in_ok-interim.ensures.on_success e.1 a.1;
         missing = a.2;
         due = due_reply g.H.Handler.answers (c.args.buffer.now.items ++ e.0) c.read_body.new.buffer.items has a.3;
+        whole = λ fault_is. absurd (c.in_err-goes-in-Whole.ensures.no_read (cc));
       };
       short = λ lack.
           let s = c.in_err-goes-in-Whole.ensures.short (cc) (message_with h r.0) kept in
