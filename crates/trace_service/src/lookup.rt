@@ -1,11 +1,11 @@
 //! What is looked up in the settings in force, which are locked meanwhile.
 
-ghost use Rattle.std.specs.Prelude.{◌≡◌, map, option_map, IfOk, IfSome};
+ghost use Rattle.std.specs.Prelude.{◌≡◌, ℕ, map, option_map, IfNone, IfOk, IfSome};
 ghost use Rattle.http_edge.specs.Seen.{seen};
-ghost use Rattle.otlp_front.specs.Route.{names_in, route_of};
+ghost use Rattle.otlp_front.specs.Route.{names_in, post, route_of};
 ghost use Rattle.tail_settings.specs.Section.{section_view};
 ghost use Rattle.tail_settings.specs.Settings.{SettingsData, number_of, section_at};
-ghost use Rattle.tenant_registry.specs.InForce.{CameOf, IsWhere};
+ghost use Rattle.tenant_registry.specs.InForce.{CameOf, IsWhere, longest_wait};
 ghost use Rattle.tenant_registry.specs.Roster.{entry_of};
 
 use http_edge::HttpMessage;
@@ -55,7 +55,10 @@ pub(crate) fn longest_wait_of<J: SettingsNaming, R: Wait>(
     rt: &R,
     settings: &Mutex<InForce<J>>,
     tenant: u32,
-) -> u64 {
+) -> u64
+    ensures { (now : SettingsData) × CameOf J.first now
+        × (result ≡ longest_wait (section_at now tenant)) }
+{
     settings.lock(rt).longest_wait(tenant)
 }
 
@@ -65,9 +68,11 @@ pub(crate) fn refusal_of<J: SettingsNaming, R: Wait>(
     settings: &Mutex<InForce<J>>,
     head: &HttpMessage,
 ) -> Option<RouteRefusal>
-    ensures { IfSome result (λ refusal. (now : SettingsData) × CameOf J.first now
+    ensures refused { IfSome result (λ refusal. (now : SettingsData) × CameOf J.first now
         × IsWhere (route_of (names_in now) (seen head.now)) now
         (Destination.Nowhere refusal)) }
+    ensures none { IfNone result ((now : SettingsData) × CameOf J.first now
+        × ((tenant : ℕ) × (route_of (names_in now) (seen head.now) ≡ post tenant))) }
 {
     settings.lock(rt).refusal(head)
 }

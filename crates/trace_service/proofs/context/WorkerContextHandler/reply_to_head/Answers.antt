@@ -10,7 +10,7 @@ use Rattle.trace_service.proofs.context.WorkerContextHandler.reply_to_head.Goals
 
 pub returns-in-Some : goal.returns-in-Some
 returns-in-Some g c = λ body.
-    let found = c.in-Some.ensures in
+    let found = c.in-Some.ensures.refused in
     let request = with_body (seen c.args.head.now) body in
     handled found.0 found.1 (sent_nowhere _ _ _ _ _ body _ (route_of (names_in found.0) request) found.0
     c.in-Some.refusal (subst (λ r. IsWhere r found.0 (Nowhere c.in-Some.refusal))
