@@ -5,8 +5,8 @@
 //! to a writer, up to the first faulty line, and each before it waits for more of the script. What is written is
 //! exactly the answers' text.
 //!
-//! It stands on the library's `hex` and, for a back end's answers, on `send_retry`. The grammar is its own, and the
-//! README has it.
+//! It stands on the library's `hex` and `memchr` and, for a back end's answers, on `send_retry`. The grammar is this
+//! project's own, and the README has it.
 #![tactic(auto)]
 
 mod answer;

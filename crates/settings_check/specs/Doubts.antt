@@ -71,7 +71,7 @@ spans_line name max_spans batch =
     ++ codes ", and send_batch_size is " ++ decimal batch.send_batch_size
     ++ codes ": a batch is cut by timeout_ms alone, and posts can get 429 until then\n"
 
--- the line of a tenant whose back end is this service itself
+-- the line of a tenant whose endpoint is the text of `listen`: its back end would be this service itself
 abbrev pub own_line : List ℕ → List ℕ → List ℕ → List ℕ
 own_line listen name endpoint =
     if bytes_eq endpoint listen

@@ -4,8 +4,9 @@
 //! settings in force as a document of their own, with nothing left to defaults, which loads to the same settings.
 //! Where it isn't, the report has its fault, where that stands, and what the key may be. Either way it warns of each
 //! key that no setting has: `tail_settings` reads past it, so a misspelt key leaves a default in force. Beside that it
-//! has the doubts of a good document: addresses that can't be one, and fewer receivers or senders than may be kept at a
-//! time. What it says of such addresses [`address_fault`] gives to who can't listen at one.
+//! has the doubts of a good document: what loads, and would hardly do what was meant, such as an address that can't be
+//! one, or a back end that is this service. What it says of such addresses [`address_fault`] gives to who can't listen
+//! at one.
 //!
 //! Which documents are good, and what they mean, is for `tail_settings` alone to say. The tables of src/table.rt have
 //! in words what each key may be, as docs/SETTINGS.md has it.

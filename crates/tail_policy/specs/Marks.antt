@@ -1,5 +1,5 @@
--- Which keys no policy asks for: a table of 256 marks, in which each key that a policy asks for has its own, though
--- other keys may share it. This project's own rule.
+-- Which keys no policy asks for: a table of 256 marks, of which that of each key that a policy asks for is set. Other
+-- keys may have the same mark, so one that is set says nothing. This project's own rule.
 use Rattle.std.proofs.Common.{◌≡◌, ◌∙◌, ◌<◌, ◌≤◌, ◌+◌, ◌-◌, ◌*◌, ◌%◌, ◌&&◌, ℕ, Bool, true, false, List, [], ◌∷◌, ◌++◌, length, get_or, set, refl, sym, ap, arith, inl, inr}
 use Rattle.std.specs.Prelude.{replicate, slice_index, slice_set}
 use Rattle.std.proofs.lemmas.Bool.Decides.{eqb_tells}
