@@ -1,5 +1,5 @@
 -- The faults that end the program, by what they come from. This project's own rule.
-use Rattle.std.specs.Prelude.{◌≡◌, ◌≢◌, ℕ, List, Err, Some}
+use Rattle.std.specs.Prelude.{◌≡◌, ◌≢◌, ◌⊎◌, ℕ, List, Err, Some}
 use Rattle.std.specs.Str.{IsUtf8}
 use Rattle.std.specs.declared.io.ErrorKind.{ErrorKind}
 use Rattle.std.specs.declared.io.ErrorKind.TheVariants as kinds
@@ -41,6 +41,11 @@ IsOfSettings text (Replay replay.Line) = ⊥
 IsOfSettings text (Replay (replay.Script line)) = ⊥
 IsOfSettings text (Replay (replay.Settings fault)) =
     (f : FaultData) × (fault_view fault ≡ Some f) × (settings_of text ≡ Err f)
+
+-- it is the fault of the bytes of a settings file: they are no text, or it is that of the settings that the text has,
+-- or the want of memory
+abbrev pub IsOfBytes : List ℕ → ProgramFault → Type 0
+IsOfBytes bytes fault = IsOfText bytes fault ⊎ IsOfSettings bytes fault
 
 -- a fault of the memory, or of files, input and output, and none of the arguments, the settings or the script
 abbrev pub IsOutside : ProgramFault → Type 0

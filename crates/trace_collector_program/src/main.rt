@@ -2,10 +2,12 @@
 //! what its steps are answered to standard output, each answer before it waits for more of the script. `--help` and
 //! `--version` print on standard output. `trace_collector check SETTINGS` writes to standard output what is to be said
 //! of the settings in that file. `trace_collector serve SETTINGS` receives bodies and sends traces under the settings
-//! in that file, until standard input ends. Statuses: 0 done, and settings that are good; 1 a fault of the settings,
-//! the script, the input or the output; 2 wrong usage; 3 no memory. A fault is told in one line on standard error, but
-//! that of settings that are checked, which is on standard output already; `check`, and `serve` with `--verbose` or
-//! `--admin`, tell behind it which file, address, input or output it is of, and why.
+//! in that file, until standard input ends; with `--admin` it doesn't read standard input, and serves until `POST
+//! /drain` comes in at the admin port. Statuses: 0 done, and settings that are good; 1 a fault of the settings, the
+//! script, the input or the output; 2 wrong usage; 3 no memory. A fault is told in one line on standard error, but that
+//! of settings that are checked, which is on standard output already; `check`, and `serve` with `--verbose` or
+//! `--admin`, tell behind it which file, address, input or output it is of, and why. Any `serve` tells so of a limit of
+//! open files that is too low.
 //!
 //! It stands on `trace_collector`, whose `replay` promises what is written, on `settings_check`, whose `check` does so
 //! too, on `trace_service`, and on `service_runtime` for what a service is given from outside.

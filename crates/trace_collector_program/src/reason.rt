@@ -1,8 +1,9 @@
 //! What is told of a fault beside the fault: which file, address, input or output it is of, and why.
 
-ghost use Rattle.std.specs.Prelude.{◌≡◌, [], false, string_bytes, true};
+ghost use Rattle.std.specs.Prelude.{◌≡◌, ◌++◌, ℕ, List, [], IfSome, false, string_bytes, true};
 ghost use Rattle.std.specs.IoError.{error_kind};
 ghost use Rattle.trace_collector_program.specs.Fault.{IsOfFile};
+ghost use Rattle.trace_collector_program.specs.Reason.{IsAdded, reason_line};
 
 use crate::ProgramFault;
 use std::alloc::Global;
@@ -39,8 +40,12 @@ impl Reason {
     }
 
     /// One more reason: what failed, and why. Where there is no memory for it, it is left out.
-    pub fn put(&mut self, what: &str, why: &impl Display)
-        ensures { self.new.is_told ≡ self.old.is_told }
+    pub fn put<D: Display>(&mut self, what: &str, why: &D)
+        ensures told { self.new.is_told ≡ self.old.is_told }
+        ensures kept { (more : List ℕ)
+            × (string_bytes self.new.lines ≡ string_bytes self.old.lines ++ more) }
+        ensures added { IfSome (D.output why.now) (λ text. IsAdded (string_bytes self.old.lines)
+            (reason_line what.now text) (string_bytes self.new.lines)) }
     {
         let Ok(line) = format!(in self.alloc; "{what}: {why}\n") else {
             return;
@@ -52,6 +57,8 @@ impl Reason {
     pub fn of(&mut self, what: &str, error: io::Error) -> ProgramFault
         ensures fault { IsOfFile (error_kind error) result }
         ensures told { self.new.is_told ≡ self.old.is_told }
+        ensures kept { (more : List ℕ)
+            × (string_bytes self.new.lines ≡ string_bytes self.old.lines ++ more) }
     {
         self.put(what, &error);
         ProgramFault::from(error)

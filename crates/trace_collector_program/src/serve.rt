@@ -101,9 +101,9 @@ impl<R: Eprint> Course<'_, R> {
     }
 }
 
-/// Serves under the settings in a file, until standard input ends and all is sent. Reports, and with an audit the
-/// lengths of the logs, are written to standard output, and where it is verbose its course to standard error. Trace
-/// ids are hashed with keys that are drawn for this run.
+/// Serves under the settings in a file, until standard input ends, or with an admin port until it is told there to
+/// drain, and all is sent. Reports, and with an audit the lengths of the logs, are written to standard output, and
+/// where it is verbose its course to standard error. Trace ids are hashed with keys that are drawn for this run.
 pub fn serve_file<R>(
     rt: &R,
     path: &str,
@@ -278,6 +278,7 @@ fn port_at<'x>(door: &'x AdminDoor, desk: &'x AdminDesk) -> AdminPort<'x>
     ensures listener { result.listener.now ≡ door.now.listener }
     ensures desk { result.desk.now ≡ desk.now }
     ensures token { option_copied result.token ≡ option_map (λ token. token.items) door.now.token }
+    ensures status { option_copied result.status ≡ door.now.status }
     ensures version { result.version.now ≡ VERSION.now }
 {
     let token = match &door.token {

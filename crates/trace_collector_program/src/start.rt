@@ -1,8 +1,8 @@
 //! What `serve` needs before it serves: settings, descriptors, and an address to listen at.
 
-ghost use Rattle.std.specs.Prelude.{◌≡◌, ℕ, List, IfOk, IfErr, Ok};
+ghost use Rattle.std.specs.Prelude.{◌≡◌, ◌⊎◌, ℕ, List, IfOk, IfErr, Ok};
 ghost use Rattle.tail_settings.specs.Settings.{settings_of, settings_view};
-ghost use Rattle.trace_collector_program.specs.Fault.{IsOfSettings, IsOutside};
+ghost use Rattle.trace_collector_program.specs.Fault.{IsOfBytes, IsOfSettings, IsOutside};
 ghost use Rattle.trace_collector_program.specs.Serve.{bounded_by, settings_served};
 ghost use Rattle.trace_collector_program.specs.Task.{options_view};
 
@@ -40,9 +40,11 @@ pub fn settings_of_file(
     options: &ServeOptions<'_>,
     reason: &mut Reason,
 ) -> Result<Settings, ProgramFault>
-    ensures { IfOk result (λ settings. (bytes : List ℕ)
+    ensures on_success { IfOk result (λ settings. (bytes : List ℕ)
         × (settings_served (options_view options.now).queue_bytes bytes ≡ Ok
         (settings_view settings))) }
+    ensures fault { IfErr result (λ fault. IsOutside fault
+        ⊎ ((bytes : List ℕ) × IsOfBytes bytes fault)) }
 {
     let bytes = read_file(rt, path, reason)?;
     match settings_of_bytes(rt.alloc(), bytes, options.queue_bytes) {
@@ -63,8 +65,9 @@ fn settings_of_bytes(
     bytes: Vec<u8>,
     queue_bytes: Option<u64>,
 ) -> Result<Settings, ProgramFault>
-    ensures { IfOk result (λ settings. settings_served queue_bytes bytes.items
+    ensures on_success { IfOk result (λ settings. settings_served queue_bytes bytes.items
         ≡ Ok (settings_view settings)) }
+    ensures fault { IfErr result (IsOfBytes bytes.items) }
 {
     let text = settings_text(bytes)?;
     let settings = settings_in(alloc, text.as_str())?;

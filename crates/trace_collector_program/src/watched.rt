@@ -1,8 +1,10 @@
 //! An input or an output of which it is remembered how it failed.
 
-ghost use Rattle.std.specs.Prelude.{◌≡◌, ◌≢◌, ◌+◌, ◌-◌, ◌^◌, min, None, Some};
+ghost use Rattle.std.specs.Prelude.{◌≡◌, IfErr, None, OnOk};
+ghost use Rattle.std.specs.Io.{ReadsAtMost, WritesAtMost};
+ghost use Rattle.std.specs.Io.KnownBytes.{Keeps, ReadConsumes, WriteAppends};
 ghost use Rattle.std.specs.IoError.{error_kind};
-ghost use Rattle.std.specs.declared.io.ErrorKind.TheVariants as kinds;
+ghost use Rattle.trace_collector_program.specs.Watched.{Remembers, RemembersNoMore};
 
 use std::io;
 use std::io::{ErrorKind, Read, Write};
@@ -48,12 +50,7 @@ impl<S> Watched<S> {
     /// Remembers how a call failed.
     fn note(&mut self, error: &io::Error)
         ensures stream { self.new.stream ≡ self.old.stream }
-        ensures fault { error_kind error.now ≢ kinds.Interrupted
-            → self.new.fault ≡ Some (error_kind error.now) }
-        ensures counted { error_kind error.now ≢ kinds.Interrupted
-            → self.new.failed ≡ min (self.old.failed + 1) (2 ^ 64 - 1) }
-        ensures interrupted { error_kind error.now ≡ kinds.Interrupted
-            → (self.new.fault ≡ self.old.fault) × (self.new.failed ≡ self.old.failed) }
+        ensures noted { Remembers (error_kind error.now) self.old self.new }
     {
         let kind = error.kind();
         if kind != ErrorKind::Interrupted {
@@ -66,7 +63,16 @@ impl<S> Watched<S> {
 impl<S: Read> Read for Watched<S> {
     ghost remaining = { λ s. S.remaining s.stream };
 
-    fn read(&mut self, buf: &mut [u8]) -> io::Result<usize> {
+    fn read(&mut self, buf: &mut [u8]) -> io::Result<usize>
+        // It reads as any reader does.
+        ensures bound { ReadsAtMost result buf.new }
+        ensures bytes { ReadConsumes (S.remaining self.old.stream) (S.remaining self.new.stream)
+            result buf.new }
+
+        // How it fails is remembered.
+        ensures noted { IfErr result (λ error. Remembers (error_kind error) self.old self.new) }
+        ensures same { OnOk result (RemembersNoMore self.old self.new) }
+    {
         match self.stream.read(buf) {
             Ok(count) => Ok(count),
             Err(error) => {
@@ -80,7 +86,16 @@ impl<S: Read> Read for Watched<S> {
 impl<S: Write> Write for Watched<S> {
     ghost contents = { λ s. S.contents s.stream };
 
-    fn write(&mut self, buf: &[u8]) -> io::Result<usize> {
+    fn write(&mut self, buf: &[u8]) -> io::Result<usize>
+        // It writes as any writer does.
+        ensures bound { WritesAtMost result buf.now }
+        ensures bytes { WriteAppends (S.contents self.old.stream) (S.contents self.new.stream)
+            result buf.now }
+
+        // How it fails is remembered.
+        ensures noted { IfErr result (λ error. Remembers (error_kind error) self.old self.new) }
+        ensures same { OnOk result (RemembersNoMore self.old self.new) }
+    {
         match self.stream.write(buf) {
             Ok(count) => Ok(count),
             Err(error) => {
@@ -90,7 +105,11 @@ impl<S: Write> Write for Watched<S> {
         }
     }
 
-    fn flush(&mut self) -> io::Result<()> {
+    fn flush(&mut self) -> io::Result<()>
+        ensures bytes { Keeps (S.contents self.old.stream) (S.contents self.new.stream) }
+        ensures noted { IfErr result (λ error. Remembers (error_kind error) self.old self.new) }
+        ensures same { OnOk result (RemembersNoMore self.old self.new) }
+    {
         match self.stream.flush() {
             Ok(()) => Ok(()),
             Err(error) => {
