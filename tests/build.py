@@ -2,9 +2,9 @@
 """Proves and builds a program of crates.txt, and says how far it is.
 
 `rt ci` proves the program's crate and those that it stands on, each once, as many side by side as there are processors, in a
-copy that has neither other crates nor edits that must be refused. It keeps what passes on this machine, for the next build and
-for the gate, and runs the program on its stored input. What it says goes to out/build.log. Where nothing has changed since the
-file was built, nothing is done.
+copy that has neither other crates nor edits that must be refused. With rattle-kit-13f it keeps what passes on this machine,
+for the next build and for the gate. It runs the program on its stored input. What it says goes to out/build.log. Where
+nothing has changed since the file was built, nothing is done.
 
     build.py CRATE FILE      FILE is the program as LLVM builds it, which is the one that the tests from outside try
 """
@@ -95,7 +95,8 @@ def build(crate, file, names, lines):
     """Builds the file, or ends with what was said last."""
     start = time.monotonic()
     print(f"Proving {len(names)} crates and building {file}. The first time this is long (README.md); each crate that is done is\n"
-          "named, with the time since the start. It may be broken off: the next run takes up what is done.", flush=True)
+          "named, with the time since the start. It may be broken off: with rattle-kit-13f the next run takes up what is done.",
+          flush=True)
     with tempfile.TemporaryDirectory(prefix="trace_collector-build-", ignore_cleanup_errors=True) as room:
         where = Path(room, "repository")
         copy(ROOT, where, names, lines)
@@ -132,4 +133,4 @@ if __name__ == "__main__":
     try:
         main(*sys.argv[1:])
     except KeyboardInterrupt:
-        sys.exit("make: broken off; what is proved is kept")
+        sys.exit("make: broken off; with rattle-kit-13f what is proved is kept")
