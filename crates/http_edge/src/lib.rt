@@ -6,7 +6,9 @@
 //! long its body may be.
 //!
 //! Rules are those of RFC 9110 and RFC 9112, with this project's own choices where they leave one (docs/HTTP.md).
-//! Heads, the lines of chunks and trailers are read by `httparse`.
+//! Heads, the lines of chunks and trailers are read by `httparse`, and an answer's chunks by `http1`, which also says
+//! how a message is framed. Methods are those of `http`. It stands on `http_line` for the line, and on `send_retry` for
+//! what an answer comes to.
 #![tactic(auto)]
 
 mod answer;

@@ -6,8 +6,8 @@
 //! OpenTelemetry Collector's `tail_sampling` and `batch` processors and of its `exporterhelper`; durations are whole
 //! milliseconds. docs/SETTINGS.md has every key.
 //!
-//! Settings that load are sound: every number is in its range, which the types say, and what many tenants add up to is
-//! bounded.
+//! Settings that load are sound: every number is in its range, and what many tenants add up to is bounded. Types hold
+//! the numbers of a section in their ranges; `load` holds those of policies, and what tenants add up to.
 //!
 //! It stands on the library's `toml` and `indexmap`.
 #![tactic(auto)]
