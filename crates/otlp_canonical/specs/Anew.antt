@@ -13,7 +13,7 @@ use Rattle.otlp_read.specs.Nested.{known_of_any, known_of_key_value}
 use Rattle.otlp_read.specs.Typed.{TypedSpan}
 use Rattle.otlp_read.specs.Value.{span_step}
 use Rattle.otlp_read.specs.Walk.{◌>>=◌, Step, Known, walk, read_with}
-use Rattle.otlp_canonical.specs.declared.anew.Parts.{Parts}
+use Rattle.otlp_canonical.specs.declared.apart.Parts.{Parts}
 
 -- behind what stood there, the field in another spelling
 pub record Spelled (field : Entry) (old new : List ℕ) : Type 0 where

@@ -6,7 +6,8 @@ ghost use Rattle.otlp_canonical.specs.Attribute.{ValueLast};
 ghost use Rattle.otlp_canonical.specs.Inner.{FieldAlike};
 ghost use Rattle.otlp_read.specs.AnyValue.{no_key_value, key_value_step};
 
-use crate::anew::{holds_others, put_respelled};
+use crate::anew::put_respelled;
+use crate::apart::holds_others;
 use crate::field::{bytes_field, short_field};
 use crate::number::{content, split};
 use crate::value::{any, scalar};

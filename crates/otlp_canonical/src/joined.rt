@@ -4,7 +4,7 @@
 ghost use Rattle.std.specs.Prelude.{◌≡◌, ◌-◌, ◌<◌, true, [], IfOk, IfSome};
 ghost use Rattle.otlp_canonical.specs.Anew.{IsPairIn};
 
-use crate::anew::Pair;
+use crate::apart::Pair;
 use crate::field::is_utf8;
 use crate::status::is_fields;
 use crate::unknown::Keeping;

@@ -12,6 +12,7 @@
 #![tactic(auto)]
 
 mod anew;
+mod apart;
 mod attribute;
 mod copy;
 mod defaults;

@@ -12,7 +12,8 @@ ghost use Rattle.otlp_trace.specs.Defaults.{no_span};
 ghost use Rattle.otlp_read.specs.Value.{span_step};
 ghost use Rattle.otlp_read.specs.Walk.{numbered, read_with};
 
-use crate::anew::{parts_of, plain_parts, put_alone, put_parts, put_short};
+use crate::anew::{put_alone, put_parts, put_short};
+use crate::apart::{parts_of, plain_parts};
 use crate::attribute::{begins_otherwise, field_size, is_plain};
 use crate::defaults::is_default;
 use crate::joined::has_values;

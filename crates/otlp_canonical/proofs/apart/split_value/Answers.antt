@@ -7,7 +7,7 @@ use Rattle.otlp_canonical.specs.Anew.{merges, number_of}
 use Rattle.otlp_canonical.proofs.Members.{none_chosen, member_chosen, unknown_chosen, all_chosen, chosen_as}
 use Rattle.otlp_canonical.proofs.Parts.{nothing}
 use Rattle.otlp_canonical.proofs.Respelled.{spelled_is}
-use Rattle.otlp_canonical.proofs.anew.split_value.Goals as goal
+use Rattle.otlp_canonical.proofs.apart.split_value.Goals as goal
 
 pub fields-init : goal.fields-init
 fields-init c = none_chosen (c.args.room - 1) (101 - c.args.room) c.args.text.now

@@ -4,7 +4,7 @@ use Rattle.pb_wire.specs.Reading.{next_at}
 use Rattle.otlp_canonical.proofs.Inside.{holding, held_found}
 use Rattle.otlp_canonical.proofs.Parts.{nothing}
 use Rattle.otlp_canonical.proofs.Respelled.{Pairing, none_paired, key_paired, value_paired, all_paired}
-use Rattle.otlp_canonical.proofs.anew.short_pair.Goals as goal
+use Rattle.otlp_canonical.proofs.apart.short_pair.Goals as goal
 
 pub returns : goal.returns
 returns c d =

@@ -3,7 +3,7 @@ use Rattle.pb_wire.specs.Grammar.{Entry, Varint, Eight, entry}
 use Rattle.otlp_canonical.specs.Anew.{LeavesNothing}
 use Rattle.otlp_canonical.proofs.Inside.{holding}
 use Rattle.otlp_canonical.proofs.Members.{string_leaves, bytes_leave, bool_leaves, int_leaves, double_leaves}
-use Rattle.otlp_canonical.proofs.anew.is_scalar.Goals as goal
+use Rattle.otlp_canonical.proofs.apart.is_scalar.Goals as goal
 
 pub returns-in-Varint : goal.returns-in-Varint
 returns-in-Varint c whole =

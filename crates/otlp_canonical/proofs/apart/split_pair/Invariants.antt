@@ -1,6 +1,6 @@
 use Rattle.std.proofs.Common.{length}
 use Rattle.otlp_canonical.proofs.Respelled.{Pairing}
-use Rattle.otlp_canonical.proofs.anew.split_pair.Given as goal
+use Rattle.otlp_canonical.proofs.apart.split_pair.Given as goal
 
 abbrev pub invariant-fields : goal.invariant-fields
 invariant-fields l = Pairing l.depth l.text l.left l.key l.value l.has_value l.unknown

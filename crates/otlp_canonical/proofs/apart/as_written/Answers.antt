@@ -2,7 +2,7 @@ use Rattle.std.proofs.Common.{rules, arith, ◌≡◌, sym, subst}
 use Rattle.pb_wire.specs.Grammar.{Entry, Varint, entry}
 use Rattle.otlp_canonical.specs.Anew.{IsPutFor}
 use Rattle.otlp_canonical.proofs.Members.{same_put, one_put}
-use Rattle.otlp_canonical.proofs.anew.as_written.Goals as goal
+use Rattle.otlp_canonical.proofs.apart.as_written.Goals as goal
 
 pub returns-in_default : goal.returns-in_default
 returns-in_default c = same_put (entry c.args.field)

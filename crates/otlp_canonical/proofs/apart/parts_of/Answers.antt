@@ -1,7 +1,7 @@
 use Rattle.std.proofs.Common.{rules, arith, ◌≡◌, ◌-◌, ◌<◌, ℕ, Option, subst}
 use Rattle.pb_wire.specs.Grammar.{Entry}
 use Rattle.otlp_canonical.specs.Anew.{IsPair, IsValue}
-use Rattle.otlp_canonical.proofs.anew.parts_of.Goals as goal
+use Rattle.otlp_canonical.proofs.apart.parts_of.Goals as goal
 
 pub returns : goal.returns
 returns c =

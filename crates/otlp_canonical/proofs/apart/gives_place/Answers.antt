@@ -4,7 +4,7 @@ use Rattle.pb_wire.specs.Reading.{next_at}
 use Rattle.otlp_canonical.specs.Anew.{LeavesNothing}
 use Rattle.otlp_canonical.proofs.Members.{place_given}
 use Rattle.otlp_canonical.proofs.Parts.{nothing}
-use Rattle.otlp_canonical.proofs.anew.gives_place.Goals as goal
+use Rattle.otlp_canonical.proofs.apart.gives_place.Goals as goal
 
 pub returns : goal.returns
 returns c whole =

@@ -7,7 +7,7 @@ use Rattle.otlp_canonical.specs.Sound.{SoundAny}
 use Rattle.otlp_canonical.proofs.Inside.{holding}
 use Rattle.otlp_canonical.proofs.Members.{scalar_gives, array_gives, list_gives}
 use Rattle.otlp_canonical.proofs.Parts.{of_some}
-use Rattle.otlp_canonical.proofs.anew.gives_way.Goals as goal
+use Rattle.otlp_canonical.proofs.apart.gives_way.Goals as goal
 
 pub returns-in-Bytes : goal.returns-in-Bytes
 returns-in-Bytes c whole first =

@@ -4,7 +4,7 @@ use Rattle.pb_wire.specs.Reading.{next_at}
 use Rattle.otlp_canonical.proofs.Inside.{holding, held_found}
 use Rattle.otlp_canonical.proofs.Members.{Choosing, none_chosen, member_chosen, all_chosen}
 use Rattle.otlp_canonical.proofs.Parts.{nothing}
-use Rattle.otlp_canonical.proofs.anew.short_string.Goals as goal
+use Rattle.otlp_canonical.proofs.apart.short_string.Goals as goal
 
 pub returns : goal.returns
 returns c room d =

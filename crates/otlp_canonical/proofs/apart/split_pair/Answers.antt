@@ -6,7 +6,7 @@ use Rattle.pb_wire.specs.Reading.{next_at}
 use Rattle.otlp_canonical.proofs.Respelled.{Pairing, none_paired, key_paired, value_paired, place_paired, unknown_paired, all_paired}
 use Rattle.otlp_canonical.proofs.Inside.{holding}
 use Rattle.otlp_canonical.proofs.Parts.{nothing}
-use Rattle.otlp_canonical.proofs.anew.split_pair.Goals as goal
+use Rattle.otlp_canonical.proofs.apart.split_pair.Goals as goal
 
 pub fields-init : goal.fields-init
 fields-init c = none_paired c.args.depth c.args.text.now []
