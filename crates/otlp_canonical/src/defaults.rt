@@ -2,8 +2,9 @@
 //! Buffers encoding allows that, and some clients do it: for fields that they always have in hand, such as the parent
 //! of a span that has none, and for messages that they write before they know how long these are.
 
-ghost use Rattle.std.specs.Prelude.{◌≡◌, ◌==◌, ◌&&◌, ◌<◌, ℕ, true, [], ◌++◌, IfOk, IfSome};
+ghost use Rattle.std.specs.Prelude.{◌≡◌, ◌==◌, ◌&&◌, ◌<◌, ◌-◌, ℕ, true, [], ◌++◌, length, Ok, Some, IfOk, IfSome};
 ghost use Rattle.pb_wire.specs.Grammar.{entry};
+ghost use Rattle.pb_wire.specs.Reading.{next_at};
 ghost use Rattle.otlp_canonical.specs.Canonical.{CanonicalCopy};
 ghost use Rattle.otlp_canonical.specs.Defaults.{DefaultsAbove, holds_default};
 ghost use Rattle.otlp_canonical.specs.Inner.{PutFor};
@@ -179,6 +180,52 @@ struct Uncopied<'a> {
     flags: &'a [u8],
 }
 
+/// A span's first field, and what becomes of it.
+#[derive(Clone, Copy)]
+struct Met<'a> {
+    /// The field.
+    field: Field<'a>,
+
+    /// What need not be there of it, where something is put in its place.
+    spare: Option<Spare>,
+
+    /// Whether it is the flags, and these are moved.
+    is_moved: bool,
+
+    /// What stands behind it.
+    rest: &'a [u8],
+}
+
+/// The first field of what is left of a span of so many bytes, and what becomes of it, behind fields of numbers up to
+/// `most`. None where no field stands there, or one that stays and is late.
+#[inline(always)]
+fn first_met(left: &[u8], span: usize, most: u32, room: u32, moves_flags: bool) -> Option<Met<'_>>
+    ensures field { IfSome result (λ met.
+        next_at (100 - room) left.now ≡ Ok (Some (entry met.field, met.rest.now))) }
+    ensures moved { IfSome result (λ met.
+        met.is_moved ≡ (place_of (entry met.field) == 16 && moves_flags)) }
+    ensures shorter { IfSome result (λ met. length met.rest.now < length left.now) }
+{
+    let depth = 100u32.saturating_sub(room);
+    let Ok(Some((field, rest))) = next_field(left, depth) else {
+        return None;
+    };
+    let spare = match spare_inside(field, left.len() - rest.len(), room, span) {
+        None if is_default(field) => Some(Spare::Bytes(0)),
+        spare => spare,
+    };
+    let is_moved = is_moved(field, moves_flags);
+    if spare.is_none() && !is_moved && is_late(field, most) {
+        return None;
+    }
+    Some(Met {
+        field,
+        spare,
+        is_moved,
+        rest,
+    })
+}
+
 /// Appends the text without the defaults that stand in it, with short lengths and with attributes respelled that can't
 /// be canonical, up to the last of these, and tells what is left to copy. None where a default stands behind a field of
 /// its own number or a greater one: it may take back what came before. None as well where the copy can't be canonical,
@@ -198,66 +245,51 @@ fn put_fields<'a>(
         ≡ read_with span_step room no_span
         (copy.new.items ++ (uncopied.from.now ++ uncopied.flags.now)))) }
 {
-    let depth = 101u32.saturating_sub(room);
     // What isn't copied yet begins here.
     let mut from = text;
     let mut flags = &text[..0];
     let mut left = text;
     let mut most = 0u32;
     'fields: while !left.is_empty() {
+        let run = &from[..from.len() - left.len()];
         // Most attributes have lengths of one byte, and stay.
         if let Some((attribute, rest)) = short_field(left, 9) {
-            if stays_as_it_is(attribute, text.len(), room - 1) {
-                most = most.max(9);
-                left = rest;
-                continue;
-            }
-            let field = Field {
-                number: 9,
-                value: Value::Bytes(attribute),
-            };
-            put_between(copy, &from[..from.len() - left.len()])?;
-            if !put_bare(alloc, copy, field, Spare::Respelled, most, room - 1)? {
-                return Ok(None);
+            if !stays_as_it_is(attribute, text.len(), room - 1) {
+                put_between(copy, run)?;
+                let field = Field {
+                    number: 9,
+                    value: Value::Bytes(attribute),
+                };
+                if !put_bare(alloc, copy, field, Spare::Respelled, most, room - 1)? {
+                    return Ok(None);
+                }
+                from = rest;
             }
             most = most.max(9);
-            from = rest;
             left = rest;
             continue;
         }
-        let Ok(Some((field, rest))) = next_field(left, depth) else {
+        let Some(met) = first_met(left, text.len(), most, room - 1, moves_flags) else {
             return Ok(None);
         };
-        let size = left.len() - rest.len();
-        let spare = spare_inside(field, size, room - 1, text.len());
-        let moves = is_moved(field, moves_flags);
-        if spare.is_none() && !is_default(field) && !moves {
-            if is_late(field, most) {
+        if met.is_moved {
+            if !flags.is_empty() {
                 return Ok(None);
             }
-            most = most.max(field.number);
-            left = rest;
-            continue;
-        }
-        put_between(copy, &from[..from.len() - left.len()])?;
-        if moves && flags.is_empty() {
-            flags = &left[..left.len() - rest.len()];
-        } else if !moves
-            && put_bare(
-                alloc,
-                copy,
-                field,
-                spare.unwrap_or(Spare::Bytes(0)),
-                most,
-                room - 1,
-            )?
-        {
-            most = most.max(field.number);
+            put_between(copy, run)?;
+            flags = &left[..left.len() - met.rest.len()];
+            from = met.rest;
+        } else if let Some(spare) = met.spare {
+            put_between(copy, run)?;
+            if !put_bare(alloc, copy, met.field, spare, most, room - 1)? {
+                return Ok(None);
+            }
+            most = most.max(met.field.number);
+            from = met.rest;
         } else {
-            return Ok(None);
+            most = most.max(met.field.number);
         }
-        from = rest;
-        left = rest;
+        left = met.rest;
     }
     Ok(Some(Uncopied { from, flags }))
 }
