@@ -11,15 +11,14 @@
 //! on a number that is cut into the holders' parts.
 #![tactic(auto)]
 
-ghost use Rattle.std.specs.Prelude.{ℕ};
 ghost use Rattle.log_positions.specs.Law.{EachStandsOnce, RisingIsTheList};
 
 /// What is all of a list has each of its items once, with its number: a law over the definitions.
-pub fn each_stands_once()
-    ensures { EachStandsOnce ℕ }
+pub fn each_stands_once<X>()
+    ensures { EachStandsOnce X }
 {}
 
 /// What is all of a list, in rising order, is that list: a law over the definitions.
-pub fn rising_is_the_list()
-    ensures { RisingIsTheList ℕ }
+pub fn rising_is_the_list<X>()
+    ensures { RisingIsTheList X }
 {}
