@@ -1,6 +1,7 @@
--- Each figure of a tenant has its word and its metric's name: the lists are gone through.
+-- Each figure of a tenant has its word and its metric's name, and each family of the page its own name, which shows its
+-- kind: the lists are gone through.
 use Rattle.std.proofs.Common.{refl}
-use Rattle.admin_pages.specs.Law.{EachHasItsName, EachHasItsWord}
+use Rattle.admin_pages.specs.Law.{EachHasItsName, EachHasItsWord, NamesAreUnique, NamesShowKinds}
 use Rattle.admin_pages.specs.declared.tenant_metric.TenantMetric.TheVariants.{Accepted, Undecided, Pending, Queued, Active, Exported, NotSampled, TooEarly, QueueFull, RetryExhausted, BackEndRefused, BackEndRejected, Invalid, OverBudget, Rows, UndecidedRows, RowsLimit, SpansLimit, QueuedBatches, QueuedBatchesLimit, QueuedBytes, QueuedBytesLimit, Ready, BackEndStatus, BackEndStatusMoment}
 
 pub each_has_its_word : EachHasItsWord
@@ -56,3 +57,9 @@ each_has_its_name QueuedBytesLimit = refl
 each_has_its_name Ready = refl
 each_has_its_name BackEndStatus = refl
 each_has_its_name BackEndStatusMoment = refl
+
+pub names_are_unique : NamesAreUnique
+names_are_unique f = refl
+
+pub names_show_kinds : NamesShowKinds
+names_show_kinds f = refl

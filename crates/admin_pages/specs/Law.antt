@@ -1,9 +1,13 @@
 -- What the definitions of Route come to for a tenant's path, and those of TenantMetric for the lists of all figures,
 -- told as a whole: laws of this project's own rules.
-use Rattle.std.specs.Prelude.{◌≡◌, ◌≢◌, ◌↔◌, ◌⊎◌, ◌++◌, ◌∷◌, ℕ, List, [], codes, filter}
+use Rattle.std.specs.Prelude.{◌≡◌, ◌≢◌, ◌↔◌, ◌⊎◌, ◌++◌, ◌∷◌, ◌-◌, ◌&&◌, ℕ, Bool, true, List, [], codes, filter, map, length, drop, is_none, find, not, None}
 use Rattle.std.specs.Str.{bytes_eq}
 use Rattle.admin_pages.specs.Route.{Tenant, Retire, route_of}
-use Rattle.admin_pages.specs.TenantMetric.{all_counters, all_others, metric_of, word_of}
+use Rattle.admin_pages.specs.Service.{service_families}
+use Rattle.admin_pages.specs.TenantMetric.{all_counters, all_others, kind_of, metric_of, word_of}
+use Rattle.admin_pages.specs.declared.service.ServiceFigures.{ServiceFigures}
+use Rattle.admin_pages.specs.declared.tenant_metric.MetricKind.{MetricKind}
+use Rattle.admin_pages.specs.declared.tenant_metric.MetricKind.TheVariants.{Counter, Gauge}
 use Rattle.admin_pages.specs.declared.tenant_metric.TenantMetric.{TenantMetric}
 
 -- the path of the tenant of this name, which has a byte
@@ -32,3 +36,31 @@ EachHasItsWord = (figure : TenantMetric) → figures_with word_of (word_of figur
 -- and its metric's name is no other's (the MetricFamily names of a text in OpenMetrics 1.0 are unique)
 abbrev pub EachHasItsName : Type 0
 EachHasItsName = (figure : TenantMetric) → figures_with metric_of (metric_of figure) ≡ figure ∷ []
+
+-- the names and the kinds of all families on the page that scrapers read, tenants' first
+abbrev pub page_families : ServiceFigures → List (List ℕ × MetricKind)
+page_families f =
+    map (λ figure. (metric_of figure, kind_of figure)) (all_counters ++ all_others) ++ service_families f
+
+-- whether none of these families has the name of a later one
+abbrev pub have_own_names : List (List ℕ × MetricKind) → Bool
+have_own_names [] = true
+have_own_names (family ∷ families) =
+    is_none (find (λ other. bytes_eq other.0 family.0) families) && have_own_names families
+
+-- whether a name ends in `_total`
+abbrev pub is_total : List ℕ → Bool
+is_total name = bytes_eq (drop (length name - 6) name) (codes "_total")
+
+-- whether a family's name ends so exactly where it is a counter's
+abbrev pub is_named_by_kind : List ℕ × MetricKind → Bool
+is_named_by_kind (name, Counter) = is_total name
+is_named_by_kind (name, Gauge) = not (is_total name)
+
+-- each family of the page has a name that no other has (OpenMetrics 1.0: MetricFamily names are unique)
+abbrev pub NamesAreUnique : Type 0
+NamesAreUnique = (f : ServiceFigures) → have_own_names (page_families f) ≡ true
+
+-- and one that ends in `_total` exactly where it is a counter's (OpenMetrics 1.0, of counters' samples)
+abbrev pub NamesShowKinds : Type 0
+NamesShowKinds = (f : ServiceFigures) → find (λ family. not (is_named_by_kind family)) (page_families f) ≡ None

@@ -1,7 +1,7 @@
 -- Figures of a whole service for a scraper. Names and types are by the conventions of Prometheus and of OpenMetrics 1.0
 -- (a counter ends in `_total`, and a figure with a unit has it in its name), and the Collector's for its process where
 -- it measures the same.
-use Rattle.std.specs.Prelude.{ℕ, List, [], ◌∷◌, ◌++◌, Option, Some, None, if◌then◌else◌, codes}
+use Rattle.std.specs.Prelude.{ℕ, List, [], ◌∷◌, ◌++◌, map, Option, Some, None, if◌then◌else◌, codes}
 use Rattle.admin_pages.specs.Metrics.{measure_text, measures_text}
 use Rattle.admin_pages.specs.Status.{counts_by_status}
 use Rattle.admin_pages.specs.declared.tenant_metric.MetricKind.{MetricKind}
@@ -68,10 +68,26 @@ receiving_of f =
     ∷ counter (codes "nimchaes_sent_bytes_total") (codes "Bytes that were written to clients") f.counts.sent_bytes
     ∷ []
 
+-- the name and the kind of the family of the memory that the process has
+abbrev pub memory_family : List ℕ × MetricKind
+memory_family = (codes "otelcol_process_memory_rss_bytes", Gauge)
+
+-- those of the family of the version that runs
+abbrev pub build_family : List ℕ × MetricKind
+build_family = (codes "nimchaes_build_info", Gauge)
+
+-- those of the requests that were answered
+abbrev pub requests_family : List ℕ × MetricKind
+requests_family = (codes "nimchaes_requests_total", Counter)
+
+-- those of the answers of back ends
+abbrev pub answers_family : List ℕ × MetricKind
+answers_family = (codes "nimchaes_back_end_answers_total", Counter)
+
 -- the memory that the process has, where that is known
 abbrev pub memory_text : Option ℕ → List ℕ
 memory_text (Some bytes) =
-    measure_text (codes "otelcol_process_memory_rss_bytes") (codes "Bytes of memory that the process has") Gauge bytes
+    measure_text memory_family.0 (codes "Bytes of memory that the process has") memory_family.1 bytes
 memory_text None = []
 
 -- a figure for each class of HTTP's statuses
@@ -88,21 +104,30 @@ answers_of counts failed = (codes "none", failed) ∷ classes_of counts
 -- what is told of the version that runs
 abbrev pub build_text : List ℕ → List ℕ
 build_text version =
-    measures_text (codes "nimchaes_build_info") (codes "The version that runs") Gauge (codes "version")
-    ((version, 1) ∷ [])
+    measures_text build_family.0 (codes "The version that runs") build_family.1 (codes "version") ((version, 1) ∷ [])
 
 -- the requests that were answered, by their statuses, under the label that Prometheus' own server and clients have for
 -- these
 abbrev pub requests_text : List ℕ → List ℕ
 requests_text counts =
-    measures_text (codes "nimchaes_requests_total") (codes "Requests that were answered by their status") Counter
+    measures_text requests_family.0 (codes "Requests that were answered by their status") requests_family.1
     (codes "code") (counts_by_status counts)
 
 -- the answers of back ends, by their statuses
 abbrev pub answers_text : StatusCounts → ℕ → List ℕ
 answers_text counts failed =
-    measures_text (codes "nimchaes_back_end_answers_total") (codes "Answers of back ends by their status") Counter
-    (codes "class") (answers_of counts failed)
+    measures_text answers_family.0 (codes "Answers of back ends by their status") answers_family.1 (codes "class")
+    (answers_of counts failed)
+
+-- the names and the kinds of families of one sample
+abbrev pub families_named : List MeasureData → List (List ℕ × MetricKind)
+families_named ms = map (λ m. (m.name, m.kind)) ms
+
+-- those of all families, in the order in which they are told
+abbrev pub service_families : ServiceFigures → List (List ℕ × MetricKind)
+service_families f =
+    build_family ∷ families_named (standing_of f) ++ memory_family ∷ families_named (receiving_of f)
+    ++ requests_family ∷ families_named (sending_of f) ++ answers_family ∷ []
 
 -- all figures
 unfoldable pub service_text : ServiceFigures → List ℕ

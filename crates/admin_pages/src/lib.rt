@@ -9,7 +9,7 @@
 //! counters are; numbers are spelled by the library's `itoa`.
 #![tactic(auto)]
 
-ghost use Rattle.admin_pages.specs.Law.{EachHasItsName, EachHasItsWord, TenantsAreRead, TenantsAreRetired};
+ghost use Rattle.admin_pages.specs.Law.{EachHasItsName, EachHasItsWord, NamesAreUnique, NamesShowKinds, TenantsAreRead, TenantsAreRetired};
 
 mod figures;
 mod json;
@@ -45,4 +45,11 @@ pub fn tenants_are_asked_for()
 pub fn each_figure_is_told_once()
     ensures words { EachHasItsWord }
     ensures names { EachHasItsName }
+{}
+
+/// Each family of metrics on the page of tenants and service has a name of its own, which ends in `_total` exactly
+/// where it is a counter's: a law over the definitions.
+pub fn names_are_unique()
+    ensures unique { NamesAreUnique }
+    ensures kinds { NamesShowKinds }
 {}
