@@ -123,6 +123,14 @@ here_of entries t u k j slot tenant high low had =
     let id : k ≡ j = λ i. (high i, low i) in
     sym (ap (λ (n : ℕ). at (pair_cmp nat_cmp) n entries j) tenant) ∙ (sym (ap (at (pair_cmp nat_cmp) t entries) id) ∙ had)
 
+-- nothing where nothing was
+pub with_no_row : (f : List ℕ → Option ℕ) (trace : List ℕ) → f trace ≡ None → with_latest_row trace None f ≡ f
+with_no_row f trace none = fun_ext (λ other. one other (bytes_eq other trace) refl)
+  where
+    one : (other : List ℕ) (b : Bool) → bytes_eq other trace ≡ b → with_latest_row trace None f other ≡ f other
+    one other true same = ap (λ (b : Bool). if b then None else f other) same ∙ sym (ap f ((bytes_eq-Decides other trace).0 same) ∙ none)
+    one other false differs = ap (λ (b : Bool). if b then None else f other) differs
+
 pub seats_put : (m n : BTreeMap (ℕ × (ℕ × ℕ)) ℕ) (t : ℕ) (trace : List ℕ) (k : ℕ × ℕ) (w : Option ℕ) → is_id trace ≡ true → k ≡ halves trace → tree.Updates (pair_cmp (pair_cmp nat_cmp)) m n (t, k) w → latest_rows_of t n.entries ≡ with_latest_row trace w (latest_rows_of t m.entries)
 seats_put m n t trace k w is number h =
     ap by_id (at_put ids m n t k w h) ∙ (ap (λ (j : ℕ × ℕ). by_id (put same_halves j w (at (pair_cmp nat_cmp) t m.entries))) number ∙ by_id_put (at (pair_cmp nat_cmp) t m.entries) trace w is)

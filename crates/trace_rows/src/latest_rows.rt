@@ -103,11 +103,13 @@ impl LatestRows {
         self.latest = None;
     }
 
-    /// The trace, which has a row, has this one as its latest again, or none. It takes no memory.
+    /// The trace has this row as its latest again, or none; where it has none now, nothing changes. It takes no memory.
     pub(crate) fn restore(&mut self, tenant: u32, trace: [u8; 16], earlier: Option<u64>)
         ensures own_part { latest_rows_of tenant self.old trace ≢ None →
             latest_rows_of tenant self.new ≡ with_latest_row trace earlier
             (latest_rows_of tenant self.old) }
+        ensures none { latest_rows_of tenant self.old trace ≡ None →
+            latest_rows_of tenant self.new ≡ latest_rows_of tenant self.old }
         ensures others_unchanged { (other : ℕ) → other ≢ tenant
             → latest_rows_of other self.new ≡ latest_rows_of other self.old }
     {

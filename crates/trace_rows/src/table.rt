@@ -135,13 +135,17 @@ impl<N: Drop> TraceRows<N> {
     }
 
     /// Takes back the row that opened, without memory. It is the latest of its trace; before it `earlier` was, as
-    /// `open` answered. Where there is no such row, nothing changes.
+    /// `open` answered. Where its trace has no latest row any more, it gets none. Where there is no such row, nothing
+    /// changes.
     pub fn undo_open(&mut self, tenant: u32, number: u64, earlier: Option<u64>)
         ensures rows { rows_part tenant self.new ≡ with_at number None (rows_part tenant self.old) }
         ensures latest_rows { IfSome (rows_part tenant self.old number) (λ row.
             latest_rows_part tenant self.old row.trace ≢ None →
             latest_rows_part tenant self.new ≡ with_latest_row row.trace earlier
             (latest_rows_part tenant self.old)) }
+        ensures no_latest_row { IfSome (rows_part tenant self.old number) (λ row.
+            latest_rows_part tenant self.old row.trace ≡ None →
+            latest_rows_part tenant self.new ≡ latest_rows_part tenant self.old) }
         ensures none { rows_part tenant self.old number ≡ None
             → latest_rows_part tenant self.new ≡ latest_rows_part tenant self.old }
         ensures others_unchanged { (other : ℕ) → other ≢ tenant → IsSame other self.old self.new }
