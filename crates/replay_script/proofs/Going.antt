@@ -6,12 +6,12 @@ use Rattle.replay_script.specs.declared.fault.ScriptFault.{ScriptFault}
 use Rattle.replay_script.specs.declared.fault.ScriptFault.TheVariants.{Script, Line, OutOfMemory}
 use Rattle.replay_script.specs.Command.{CommandData}
 use Rattle.replay_script.specs.Line.{kind_of, lines_of}
-use Rattle.replay_script.specs.Transcript.{Told, BeginsTold, Ends}
+use Rattle.replay_script.specs.Transcript.{Told, BeginsTold, ReadTo, Ends}
 use Rattle.replay_script.specs.Step.{Adds, Refuses}
 use Rattle.replay_script.specs.Input.{TakesLine, ReadsOne, kept_of, IsOutside}
 use Rattle.replay_script.specs.Output.{Sends}
 use Rattle.replay_script.proofs.Long.{kind_kept}
-use Rattle.replay_script.proofs.Ran.{RanTo, ran_more, ran_over, ran_faulty, ran_begins, ran_so_far, begins}
+use Rattle.replay_script.proofs.Ran.{RanTo, ran_more, ran_over, ran_faulty, ran_read, ran_begins, ran_so_far, begins}
 use Rattle.replay_script.proofs.Sent.{sends_on, sends_more}
 
 few : (line : List ℕ) (lines : List (List ℕ)) → length (line ∷ lines) ≤ 1 + length lines
@@ -99,7 +99,10 @@ module _ {S : Type 0} (answers : S → CommandData → Option (List ℕ) → S �
   refused : (all : List (List ℕ)) (start : S) (line rest : List ℕ) (number : ℕ) (state : S) (text : List ℕ) (unread : Option (List ℕ)) (fault : ScriptFault) → unread ≡ Some rest
       → RanTo answers all start (line ∷ lines_of rest) number state text → Refuses answers state (kind_of line) (number + 1) fault → Ends answers all start unread text (Err fault)
   refused all start line rest number state text unread (Script n) is ran refuses =
-      subst (λ k. Told answers all 1 start text (Some k)) (sym refuses.0) (ran_faulty answers all start line (lines_of rest) number state text ran refuses.1)
+      subst (λ k. Told answers all 1 start text (Some k) × ReadTo k all unread) (sym refuses.0) (
+        ran_faulty answers all start line (lines_of rest) number state text ran refuses.1,
+        ran_read answers all start line rest number state text unread ran is,
+      )
   refused all start line rest number state text unread Line is ran refuses = absurd refuses
   refused all start line rest number state text unread OutOfMemory is ran refuses =
       ran_so_far answers all start (line ∷ lines_of rest) number state text unread rest ran is (few line (lines_of rest))

@@ -1,11 +1,11 @@
 -- A script that was run so far, and what the next line adds.
-use Rattle.std.proofs.Common.{◌≡◌, ◌≤◌, ◌+◌, ℕ, List, [], ◌∷◌, ◌++◌, length, Option, Some, None, Result, Ok, Err, refl, ap, sym, subst, ◌∙◌}
-use Rattle.std.proofs.lemmas.List.{append-nil, append_assoc}
+use Rattle.std.proofs.Common.{◌≡◌, ◌≤◌, ◌+◌, ℕ, List, [], ◌∷◌, ◌++◌, length, Option, Some, None, Result, Ok, Err, refl, ap, sym, subst, ◌∙◌, arith}
+use Rattle.std.proofs.lemmas.List.{append-nil, append_assoc, length-append}
 use Rattle.replay_script.specs.declared.fault.ScriptFault.{ScriptFault}
 use Rattle.replay_script.specs.declared.fault.ScriptFault.TheVariants.{Script, Line, OutOfMemory}
 use Rattle.replay_script.specs.Command.{CommandData}
 use Rattle.replay_script.specs.Line.{Kind, Skipped, Says, Faulty, kind_of, lines_of}
-use Rattle.replay_script.specs.Transcript.{Goes, Told, BeginsTold, ToldSoFar, Ends}
+use Rattle.replay_script.specs.Transcript.{Goes, Told, BeginsTold, ToldSoFar, ReadTo, Ends}
 use Rattle.replay_script.specs.Step.{Adds, IsFaulty}
 
 module _ {S : Type 0} (answers : S → CommandData → Option (List ℕ) → S → Type 0) where
@@ -13,6 +13,7 @@ module _ {S : Type 0} (answers : S → CommandData → Option (List ℕ) → S �
   pub record RanTo (all : List (List ℕ)) (start : S) (left : List (List ℕ)) (number : ℕ) (state : S) (text : List ℕ) : Type 0 where
     pub done : List (List ℕ)
     pub split : all ≡ done ++ left
+    pub counted : length done ≡ number
     pub goes : (lines : List (List ℕ)) (more : List ℕ) (fault : Option ℕ) → Told answers lines (number + 1) state more fault
         → Told answers (done ++ lines) 1 start (text ++ more) fault
 
@@ -23,6 +24,9 @@ module _ {S : Type 0} (answers : S → CommandData → Option (List ℕ) → S �
   goes_on (Says command) number old new text more fault rest adds told = (Some text, new, adds, (more, refl, told))
   goes_on Faulty number old new text more fault rest adds told = absurd adds
 
+  one_more : (done : List (List ℕ)) (line : List ℕ) (number : ℕ) → length done ≡ number → length (done ++ line ∷ []) ≡ number + 1
+  one_more done line number counted = let both = length-append done (line ∷ []) in omega (arith, both, counted)
+
   pub ran_more : (all : List (List ℕ)) (start : S) (line : List ℕ) (left : List (List ℕ)) (number : ℕ) (state after : S) (text added : List ℕ)
       → RanTo all start (line ∷ left) number state text → Adds answers state (kind_of line) added after
       → RanTo all start left (number + 1) after (text ++ added)
@@ -30,6 +34,7 @@ module _ {S : Type 0} (answers : S → CommandData → Option (List ℕ) → S �
       record {
         done = ran.done ++ line ∷ [];
         split = ran.split ∙ sym (append_assoc ran.done (line ∷ []) left);
+        counted = one_more ran.done line number ran.counted;
         goes = λ lines more fault told.
             subst (λ l. Told answers l 1 start ((text ++ added) ++ more) fault) (sym (append_assoc ran.done (line ∷ []) lines))
             (subst (λ t. Told answers (ran.done ++ line ∷ lines) 1 start t fault) (sym (append_assoc text added more))
@@ -53,6 +58,17 @@ module _ {S : Type 0} (answers : S → CommandData → Option (List ℕ) → S �
       subst (λ l. Told answers l 1 start text (Some (number + 1))) (sym ran.split)
       (subst (λ t. Told answers (ran.done ++ line ∷ left) 1 start t (Some (number + 1))) (append-nil text)
       (ran.goes (line ∷ left) [] (Some (number + 1)) (stops (kind_of line) (number + 1) state (Told answers left (number + 1 + 1)) faulty)))
+
+  pub ran_read : (all : List (List ℕ)) (start : S) (line rest : List ℕ) (number : ℕ) (state : S) (text : List ℕ) (unread : Option (List ℕ))
+      → RanTo all start (line ∷ lines_of rest) number state text → unread ≡ Some rest → ReadTo (number + 1) all unread
+  ran_read all start line rest number state text unread ran is =
+      record {
+        done = ran.done ++ line ∷ [];
+        rest = rest;
+        parted = ran.split ∙ sym (append_assoc ran.done (line ∷ []) (lines_of rest));
+        counted = one_more ran.done line number ran.counted;
+        to_read = is;
+      }
 
   pub ran_begins : (all : List (List ℕ)) (start : S) (left : List (List ℕ)) (number : ℕ) (state : S) (text : List ℕ) → RanTo all start left number state text → BeginsTold answers all start text
   ran_begins all start left number state text ran = (
@@ -81,7 +97,7 @@ module _ {S : Type 0} (answers : S → CommandData → Option (List ℕ) → S �
   pub begins : (lines : List (List ℕ)) (start : S) (unread : Option (List ℕ)) (written left : List ℕ) (r : Result Unit ScriptFault)
       → Ends answers lines start unread (written ++ left) r → BeginsTold answers lines start written
   begins lines start unread written left (Ok done) told = (lines, [], left, None, sym (append-nil lines), told)
-  begins lines start unread written left (Err (Script line)) told = (lines, [], left, Some line, sym (append-nil lines), told)
+  begins lines start unread written left (Err (Script line)) told = (lines, [], left, Some line, sym (append-nil lines), told.0)
   begins lines start unread written left (Err Line) told =
       (told.0, told.1, left ++ told.2, told.3, told.4, subst (λ t. Told answers told.0 1 start t told.3) (append_assoc written left told.2) told.5)
   begins lines start unread written left (Err OutOfMemory) told = (told.done, told.left, left, None, told.parted, told.told)

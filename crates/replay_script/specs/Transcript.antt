@@ -50,11 +50,21 @@ pub record ToldSoFar {S : Type 0} (answers : AnswersOf S) (lines : List (List �
   pub to_read : unread ≡ Some rest
   pub one_read : length left ≤ 1 + length (lines_of rest)
 
--- what was written of a script's answers, by how its replay ended and what its reader has left
+-- so many of the lines were read, each whole, and nothing behind them
+pub record ReadTo (number : ℕ) (lines : List (List ℕ)) (unread : Option (List ℕ)) : Type 0 where
+  pub done : List (List ℕ)
+  pub rest : List ℕ
+  pub parted : lines ≡ done ++ lines_of rest
+  pub counted : length done ≡ number
+  pub to_read : unread ≡ Some rest
+
+-- what was written of a script's answers, by how its replay ended and what its reader has left. Nothing is read behind
+-- a faulty line
 abbrev pub Ends : {S : Type 0} → AnswersOf S → List (List ℕ) → S → Option (List ℕ) → List ℕ
     → Result Unit ScriptFault → Type 0
 Ends answers lines state unread written (Ok done) = Told answers lines 1 state written None
-Ends answers lines state unread written (Err (Script line)) = Told answers lines 1 state written (Some line)
+Ends answers lines state unread written (Err (Script line)) =
+    Told answers lines 1 state written (Some line) × ReadTo line lines unread
 Ends answers lines state unread written (Err Line) = BeginsTold answers lines state written
 Ends answers lines state unread written (Err OutOfMemory) = ToldSoFar answers lines state unread written
 

@@ -19,9 +19,9 @@ use std::thread::Threads;
 const MAX_CALLS: u64 = 1 << 62;
 
 /// Runs the script that the reader gives, and writes the answers: before the reader may have to wait, all answers so
-/// far are written and the writer is flushed. Where a line is faulty, the answers to all lines before it were written;
-/// where memory was refused, the answers to all lines that were read, but to the last at most; where the reader or the
-/// writer failed, a beginning of the answers' text.
+/// far are written and the writer is flushed. Where a line is faulty, the answers to all lines before it were written,
+/// and nothing behind it was read; where memory was refused, the answers to all lines that were read, but to the last
+/// at most; where the reader or the writer failed, a beginning of the answers' text.
 pub fn run_script<T: Threads + Sync, S: Session, R: BufRead, W: Write>(
     rt: &T,
     alloc: Global,
