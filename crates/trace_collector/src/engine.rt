@@ -35,7 +35,8 @@ pub enum ReplayFault {
 
 /// Does the commands of a script, one after another, under these settings, and writes what they are answered, each
 /// answer before it waits for more of the script. Back ends' answers, with the words that spread the next attempts, are
-/// the script's. A body's spans are noted in as many threads as the settings have `parts`, the caller's among them.
+/// the script's. A body's spans are noted in as many threads as the settings have `parts`, the caller's among them,
+/// where there are 512 or more, and else by the caller alone.
 pub fn replay<T: Threads + Sync, R: BufRead, W: Write>(
     rt: &T,
     alloc: Global,
