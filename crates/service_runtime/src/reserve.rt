@@ -16,8 +16,9 @@ const CALM: u64 = 1_024;
 /// So often it is halved at most.
 const HALVINGS: u32 = 4;
 
-/// Memory that is kept back for turns, answers, reports and drains: what tenants hold goes only by them. Whoever is
-/// refused memory for one of these gives it up and tries again. While it isn't there no post is taken.
+/// Memory that is kept back for turns, answers and chores: what tenants hold goes only by them. Whoever is refused
+/// memory for one of these, or for a post to a back end, gives it up and tries again. While it isn't there no post of
+/// a client's is taken.
 #[derive(Drop)]
 pub struct Reserve {
     alloc: Global,

@@ -10,7 +10,7 @@ use otlp_front::RouteRefusal;
 use otlp_trace::write_status;
 use std::alloc::{AllocError, Global};
 
-/// The reply to who is refused so.
+/// The reply to who is refused so. Where memory is refused it is the one that takes none.
 pub fn refused(alloc: Global, refusal: RouteRefusal) -> Reply
     ensures { MayTell (response_for refusal) (response_of result) }
 {
@@ -20,7 +20,7 @@ pub fn refused(alloc: Global, refusal: RouteRefusal) -> Reply
     }
 }
 
-/// The reply to a body that has no value.
+/// The reply to a body that has no value. Where memory is refused it is the one that takes none.
 pub fn bad_protobuf(alloc: Global) -> Reply
     ensures { MayTell bad_request (response_of result) }
 {

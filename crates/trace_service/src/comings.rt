@@ -127,7 +127,7 @@ where
 
     /// Has the tenant of this name send what it holds, waits until that is done, lets it go, and prints what came of
     /// it. Meanwhile no other line is answered. A service with an admin port may be told there to end before that is
-    /// done: then the tenant stays. Where there is no tenant of this name nothing is done.
+    /// done: then the tenant stays while it holds spans. Where there is no tenant of this name nothing is done.
     pub fn retire<O: Write>(
         &mut self,
         roster: &mut Roster,

@@ -20,8 +20,8 @@ pub struct ServiceOptions {
     /// So long a client's connection may rest, within a message and between two of them, before it is closed; without
     /// it for ever. Not 0.
     pub client_timeout: Option<Duration>,
-    /// So long a client may take for a request, from its first byte on, before its connection is closed; without it for
-    /// ever. Not 0.
+    /// So long a client may take for a request, from its first byte on, and anew behind `100 Continue`, before its
+    /// connection is closed; without it for ever. Not 0.
     pub request_timeout: Option<Duration>,
     /// So long a whole attempt at a job may take, from connecting to its back end to the end of the answer, before it
     /// has failed; without it for ever. Not 0.

@@ -57,7 +57,7 @@ pub fn post_body<T: Threads + Sync, R: Wait>(
     }
 }
 
-/// What a sender is told of its body's outcome.
+/// What a client is told of its body's outcome.
 fn http_reply(alloc: Global, outcome: Outcome) -> Reply
     ensures { Tells outcome (response_of result) }
 {

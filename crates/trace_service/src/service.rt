@@ -48,7 +48,7 @@ use thiserror::Error;
 /// Why a service ended early, or what it met on its way.
 #[derive(Clone, Copy, Debug, Drop, PartialEq, Eq, Error)]
 pub enum ServiceFault {
-    /// The clock, the listener or the input failed.
+    /// The clock or the input failed.
     #[error("input or output fault")]
     Line,
     /// There was no memory.
