@@ -21,7 +21,8 @@ use tenant_shard::{Outcome, Shard, Step, Waiting};
 /// A shard, and a generator of words for each of its tenants.
 #[derive(Drop)]
 pub struct ShardMachine {
-    shard: Shard,
+    // On the heap, since the machine is moved at each call.
+    shard: Box<Shard>,
     words: JitterGenerators,
 }
 
@@ -30,9 +31,9 @@ impl Model for ShardMachine {
 
     ghost Value = { MachineState };
 
-    ghost view = { λ s. record { views = s.shard; words = s.words } };
+    ghost view = { λ s. record { views = s.shard.value; words = s.words } };
 
-    ghost invariant = { λ s. AreMembers s.words s.shard };
+    ghost invariant = { λ s. AreMembers s.words s.shard.value };
 }
 
 impl ShardMachine {
@@ -51,6 +52,7 @@ impl ShardMachine {
     {
         let shard = Shard::open_with_keys(alloc, settings, members, keys)?;
         let words = seeded(alloc, settings, members)?;
+        let shard = Box::new(alloc, shard)?;
         Ok(ShardMachine { shard, words })
     }
 }
