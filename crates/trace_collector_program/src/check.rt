@@ -1,9 +1,10 @@
 //! The word `check`.
 
-ghost use Rattle.std.specs.Prelude.{ℕ, List, IfOk, IfErr, string_bytes};
+ghost use Rattle.std.specs.Prelude.{codes, ◌≡◌, ℕ, List, IfOk, IfErr, OnOk, OnErr, string_bytes};
 ghost use Rattle.std.specs.Io.KnownBytes.{Appends};
 ghost use Rattle.trace_collector_program.specs.Check.{IsChecked};
 ghost use Rattle.trace_collector_program.specs.Fault.{IsOutside};
+ghost use Rattle.trace_collector_program.specs.Reason.{TellsOf};
 
 use crate::reason::Reason;
 use crate::{ProgramFault, read_file};
@@ -48,6 +49,9 @@ fn check_into<W: Write>(
         × Appends (W.contents writer.old) (W.contents writer.new) report
         × IsChecked settings.now report (string_bytes r.1) r.0) }
     ensures fault { IfErr result IsOutside }
+    ensures told { reason.new.is_told ≡ reason.old.is_told }
+    ensures line { OnErr result (TellsOf (codes "standard output") reason.old reason.new) }
+    ensures same { OnOk result (reason.new ≡ reason.old) }
 {
     let report = check(alloc, settings)?;
     if let Err(error) = writer.write_all(report.text.as_bytes()) {

@@ -24,11 +24,12 @@ mod start;
 mod task;
 mod watched;
 
-ghost use Rattle.std.specs.Prelude.{◌≡◌, ℕ, List, IfSome, IfOk, IfErr, string_bytes};
+ghost use Rattle.std.specs.Prelude.{◌≡◌, ℕ, List, IfSome, IfOk, IfErr, OnOk, OnErr, string_bytes};
 ghost use Rattle.std.specs.Io.KnownBytes.{Appends};
 ghost use Rattle.std.specs.IoError.{error_kind};
 ghost use Rattle.std.specs.Process.{exit_status};
 ghost use Rattle.trace_collector_program.specs.Fault.{IsOfFile, IsOfArguments, IsOfText, IsOutside};
+ghost use Rattle.trace_collector_program.specs.Reason.{TellsOf};
 ghost use Rattle.trace_collector_program.specs.Run.{IsRun};
 ghost use Rattle.trace_collector_program.specs.Status.{status_of, end_status};
 ghost use Rattle.trace_collector_program.specs.declared.ProgramFault.TheVariants as faults;
@@ -196,7 +197,10 @@ fn read_file(
     path: &str,
     reason: &mut Reason,
 ) -> Result<Vec<u8>, ProgramFault>
-    ensures { IfErr result IsOutside }
+    ensures fault { IfErr result IsOutside }
+    ensures told { reason.new.is_told ≡ reason.old.is_told }
+    ensures line { OnErr result (TellsOf path.now reason.old reason.new) }
+    ensures same { OnOk result (reason.new ≡ reason.old) }
 {
     match fs::read(rt, path) {
         Ok(bytes) => Ok(bytes),

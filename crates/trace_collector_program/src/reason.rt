@@ -3,7 +3,7 @@
 ghost use Rattle.std.specs.Prelude.{◌≡◌, ◌++◌, ℕ, List, [], IfSome, false, string_bytes, true};
 ghost use Rattle.std.specs.IoError.{error_kind};
 ghost use Rattle.trace_collector_program.specs.Fault.{IsOfFile};
-ghost use Rattle.trace_collector_program.specs.Reason.{IsAdded, reason_line};
+ghost use Rattle.trace_collector_program.specs.Reason.{IsAdded, TellsOf, reason_line};
 
 use crate::ProgramFault;
 use std::alloc::Global;
@@ -44,8 +44,20 @@ impl Reason {
         ensures told { self.new.is_told ≡ self.old.is_told }
         ensures kept { (more : List ℕ)
             × (string_bytes self.new.lines ≡ string_bytes self.old.lines ++ more) }
+        ensures line { TellsOf what.now self.old self.new }
         ensures added { IfSome (D.output why.now) (λ text. IsAdded (string_bytes self.old.lines)
             (reason_line what.now text) (string_bytes self.new.lines)) }
+    {
+        if let Ok(why) = format!(in self.alloc; "{why}") {
+            self.add(what, why.as_str());
+        }
+    }
+
+    /// One more line, of what failed and why. Where there is no memory for it, it is left out.
+    fn add(&mut self, what: &str, why: &str)
+        ensures told { self.new.is_told ≡ self.old.is_told }
+        ensures added { IsAdded (string_bytes self.old.lines) (reason_line what.now why.now)
+            (string_bytes self.new.lines) }
     {
         let Ok(line) = format!(in self.alloc; "{what}: {why}\n") else {
             return;
@@ -59,6 +71,7 @@ impl Reason {
         ensures told { self.new.is_told ≡ self.old.is_told }
         ensures kept { (more : List ℕ)
             × (string_bytes self.new.lines ≡ string_bytes self.old.lines ++ more) }
+        ensures line { TellsOf what.now self.old self.new }
     {
         self.put(what, &error);
         ProgramFault::from(error)

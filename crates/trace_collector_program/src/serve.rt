@@ -1,10 +1,13 @@
 //! The word `serve`.
 
-ghost use Rattle.std.specs.Prelude.{◌≡◌, ◌↔◌, Ok, IfErr, option_copied, option_map};
+ghost use Rattle.std.specs.Prelude.{codes, ◌≡◌, ◌↔◌, Ok, IfErr, IfSome, None, option_copied, option_map};
 ghost use Rattle.std.specs.Duration.{as_nanos};
-ghost use Rattle.trace_collector_program.specs.Fault.{of_service, IsOutside};
+ghost use Rattle.trace_collector_program.specs.Fault.{of_service};
+ghost use Rattle.trace_collector_program.specs.Reason.{TellsOf};
 ghost use Rattle.trace_collector_program.specs.Serve.{IsAsked, nanos_of};
 ghost use Rattle.trace_collector_program.specs.Task.{options_view};
+ghost use Rattle.trace_collector_program.specs.declared.ProgramFault.TheVariants as faults;
+ghost use Rattle.trace_collector.specs.declared.engine.ReplayFault.TheVariants as replay_faults;
 
 use crate::admin::{AdminDoor, admin_door};
 use crate::descriptors::ThreadCounts;
@@ -301,7 +304,7 @@ fn port_at<'x>(door: &'x AdminDoor, desk: &'x AdminDesk) -> AdminPort<'x>
 /// The fault of a service of whose answers so many were lost.
 fn whole(lost: u64) -> Result<(), ProgramFault>
     ensures whole { result ≡ Ok tt ↔ lost ≡ 0 }
-    ensures fault { IfErr result IsOutside }
+    ensures fault { IfErr result (λ fault. fault ≡ faults.Replay replay_faults.Line) }
 {
     if lost == 0 {
         Ok(())
@@ -338,14 +341,24 @@ fn duration(millis: Option<u32>) -> Option<Duration>
 }
 
 /// The reason for which the input failed, where it did.
-fn put_input<I>(reason: &mut Reason, input: &Watched<I>) {
+fn put_input<I>(reason: &mut Reason, input: &Watched<I>)
+    ensures told { reason.new.is_told ≡ reason.old.is_told }
+    ensures line { IfSome input.now.fault (λ kind. TellsOf (codes "standard input") reason.old
+        reason.new) }
+    ensures same { input.now.fault ≡ None → reason.new ≡ reason.old }
+{
     if let Some(kind) = input.fault() {
         reason.put("standard input", &kind);
     }
 }
 
 /// The reason for which the output failed, where it did.
-fn put_output<O>(reason: &mut Reason, output: &Watched<O>) {
+fn put_output<O>(reason: &mut Reason, output: &Watched<O>)
+    ensures told { reason.new.is_told ≡ reason.old.is_told }
+    ensures line { IfSome output.now.fault (λ kind. TellsOf (codes "standard output") reason.old
+        reason.new) }
+    ensures same { output.now.fault ≡ None → reason.new ≡ reason.old }
+{
     if let Some(kind) = output.fault() {
         let lost = output.failed();
         reason.put("standard output", &Loss { kind, lost });

@@ -1,10 +1,15 @@
 //! What `serve` needs before it serves: settings, descriptors, and an address to listen at.
 
-ghost use Rattle.std.specs.Prelude.{◌≡◌, ◌⊎◌, ℕ, List, IfOk, IfErr, Ok};
+ghost use Rattle.std.specs.Prelude.{codes, ◌≡◌, ◌⊎◌, ℕ, List, true, IfSome, IfOk, IfErr, OnOk, OnErr, Ok, string_bytes};
+ghost use Rattle.std.specs.IoError.{error_kind};
+ghost use Rattle.settings_check.specs.Address.{address_fault};
 ghost use Rattle.tail_settings.specs.Settings.{settings_of, settings_view};
-ghost use Rattle.trace_collector_program.specs.Fault.{IsOfBytes, IsOfSettings, IsOutside};
+ghost use Rattle.trace_collector_program.specs.Fault.{IsOfBytes, IsOfFile, IsOfSettings, IsOutside};
+ghost use Rattle.trace_collector_program.specs.Reason.{IsAdded, TellsOf, reason_line};
 ghost use Rattle.trace_collector_program.specs.Serve.{bounded_by, settings_served};
 ghost use Rattle.trace_collector_program.specs.Task.{options_view};
+ghost use Rattle.trace_collector_program.specs.declared.ProgramFault.TheVariants as faults;
+ghost use Rattle.trace_collector.specs.declared.engine.ReplayFault.TheVariants as replay_faults;
 
 use crate::descriptors::{ThreadCounts, too_low};
 use crate::reason::Reason;
@@ -45,6 +50,9 @@ pub fn settings_of_file(
         (settings_view settings))) }
     ensures fault { IfErr result (λ fault. IsOutside fault
         ⊎ ((bytes : List ℕ) × IsOfBytes bytes fault)) }
+    ensures told { reason.new.is_told ≡ reason.old.is_told }
+    ensures line { OnErr result (TellsOf path.now reason.old reason.new) }
+    ensures same { OnOk result (reason.new ≡ reason.old) }
 {
     let bytes = read_file(rt, path, reason)?;
     match settings_of_bytes(rt.alloc(), bytes, options.queue_bytes) {
@@ -94,7 +102,10 @@ pub fn listen_at<N: Net<Listener = TcpListener, Stream = TcpStream>>(
     address: &str,
     reason: &mut Reason,
 ) -> Result<TcpListener, ProgramFault>
-    ensures { IfErr result IsOutside }
+    ensures fault { IfErr result IsOutside }
+    ensures told { reason.new.is_told ≡ reason.old.is_told }
+    ensures line { OnErr result (TellsOf address.now reason.old reason.new) }
+    ensures same { OnOk result (reason.new ≡ reason.old) }
 {
     match TcpListener::bind(rt, address) {
         Ok(listener) => Ok(listener),
@@ -104,7 +115,12 @@ pub fn listen_at<N: Net<Listener = TcpListener, Stream = TcpStream>>(
 
 /// The fault of an address at which nobody can listen, with what its text lacks, or else with what the system says.
 fn unheard(address: &str, error: io::Error, reason: &mut Reason) -> ProgramFault
-    ensures { IsOutside result }
+    ensures fault { IsOfFile (error_kind error) result }
+    ensures told { reason.new.is_told ≡ reason.old.is_told }
+    ensures line { TellsOf address.now reason.old reason.new }
+    ensures lacking { IfSome (address_fault address.now) (λ why. IsAdded
+        (string_bytes reason.old.lines) (reason_line address.now why)
+        (string_bytes reason.new.lines)) }
 {
     match address_fault(address.as_bytes()) {
         Some(why) => {
@@ -122,7 +138,10 @@ pub fn has_descriptors(
     threads: ThreadCounts,
     reason: &mut Reason,
 ) -> Result<(), ProgramFault>
-    ensures { IfErr result IsOutside }
+    ensures fault { IfErr result (λ fault. fault ≡ faults.Replay replay_faults.Line) }
+    ensures told { OnErr result (reason.new.is_told ≡ true) }
+    ensures line { OnErr result (TellsOf (codes "open files") reason.old reason.new) }
+    ensures same { OnOk result (reason.new ≡ reason.old) }
 {
     let Ok(limits) = fs::read(rt, LIMITS) else {
         return Ok(());
@@ -135,7 +154,9 @@ pub fn has_descriptors(
 
 /// The fault of a limit of open files that is too low. It is told also to who isn't told of other faults.
 fn short_of(limit: u32, threads: ThreadCounts, reason: &mut Reason) -> ProgramFault
-    ensures { IsOutside result }
+    ensures fault { result ≡ faults.Replay replay_faults.Line }
+    ensures told { reason.new.is_told ≡ true }
+    ensures line { TellsOf (codes "open files") reason.old reason.new }
 {
     let shortage = Shortage {
         limit,
