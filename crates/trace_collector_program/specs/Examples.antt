@@ -9,7 +9,7 @@ use Rattle.trace_collector_program.specs.Fault.{IsOfFile, IsOfArguments, IsOfTex
 use Rattle.trace_collector_program.specs.Run.{IsRun}
 use Rattle.trace_collector_program.specs.Status.{status_of, end_status}
 use Rattle.trace_collector_program.specs.Task.{OptionsData, TaskData, replay, serve, check, help, version, none_given, task_of}
-use Rattle.trace_collector_program.specs.Token.{is_token}
+use Rattle.trace_collector_program.specs.Token.{is_token, without_end}
 use Rattle.trace_collector_program.specs.declared.check.End.TheVariants.{Good, Faulty}
 use Rattle.trace_collector_program.specs.declared.ProgramFault.{ProgramFault}
 use Rattle.trace_collector_program.specs.declared.ProgramFault.TheVariants.{Usage, Replay}
@@ -180,3 +180,17 @@ pub record Tokens : Type 0 where
   pub two_lines : is_token (codes "QUJD\nQUJD") ≡ false
   pub quoted : is_token (codes "\"QUJD\"") ≡ false
   pub not_ascii : is_token (195 ∷ 169 ∷ []) ≡ false
+
+-- a line feed, and a carriage return before it, are no part of the text; each once, at its end alone, in that order
+pub record Ends : Type 0 where
+  pub line_feed : without_end (codes "QUJD\n") ≡ codes "QUJD"
+  pub both : without_end (codes "QUJD\r\n") ≡ codes "QUJD"
+  pub carriage_return : without_end (codes "QUJD\r") ≡ codes "QUJD"
+  pub no_end : without_end (codes "QUJD") ≡ codes "QUJD"
+  pub two_line_feeds : without_end (codes "QUJD\n\n") ≡ codes "QUJD\n"
+  pub two_carriage_returns : without_end (codes "QUJD\r\r\n") ≡ codes "QUJD\r"
+  pub other_order : without_end (codes "QUJD\n\r") ≡ codes "QUJD\n"
+  pub within : without_end (codes "QU\nJD") ≡ codes "QU\nJD"
+  pub blank : without_end (codes "QUJD ") ≡ codes "QUJD "
+  pub end_alone : without_end (codes "\r\n") ≡ []
+  pub empty : without_end [] ≡ []

@@ -1,7 +1,8 @@
 -- The token that the admin port asks for. A bearer token is of few characters, with `=` at its end
 -- alone (RFC 6750, 2.1, `b64token`): so each client can send it, and no other text can be meant.
-use Rattle.std.specs.Prelude.{ℕ, List, [], ◌∷◌, length, Bool, true, false, ◌&&◌, ◌||◌, not, ◌==◌, nat_le, if◌then◌else◌}
+use Rattle.std.specs.Prelude.{ℕ, ◌-◌, List, [], ◌∷◌, length, take, drop, Bool, true, false, ◌&&◌, ◌||◌, not, ◌==◌, nat_le, if◌then◌else◌}
 use Rattle.std.specs.Char.{is_ascii_alphanumeric}
+use Rattle.std.specs.Str.{bytes_eq}
 
 -- a letter, a digit, or one of - . _ ~ + /
 abbrev pub is_token_byte : ℕ → Bool
@@ -22,3 +23,12 @@ shortest_token = 16
 abbrev pub is_token : List ℕ → Bool
 is_token [] = false
 is_token (byte ∷ bytes) = is_token_byte byte && goes_on false bytes
+
+-- a text without this byte at its end, if it stands there
+abbrev pub without_last : ℕ → List ℕ → List ℕ
+without_last byte text =
+    if bytes_eq (drop (length text - 1) text) (byte ∷ []) then take (length text - 1) text else text
+
+-- a text without the end of its line, if it has one there: a line feed, and a carriage return before it
+abbrev pub without_end : List ℕ → List ℕ
+without_end text = without_last 13 (without_last 10 text)

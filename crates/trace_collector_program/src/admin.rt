@@ -1,8 +1,11 @@
 //! The service's admin port.
 
-ghost use Rattle.std.specs.Prelude.{◌≡◌, ◌≤◌, false, IfErr, IfOk, IsTrue, length};
+ghost use Rattle.std.specs.Prelude.{◌≡◌, ◌⊎◌, ◌≤◌, ◌<◌, false, IfErr, IfOk, IsTrue, OnOk, OnErr, length, string_bytes};
 ghost use Rattle.trace_collector_program.specs.Fault.{IsOutside};
-ghost use Rattle.trace_collector_program.specs.Token.{is_token_byte, goes_on, is_token, shortest_token};
+ghost use Rattle.trace_collector_program.specs.Reason.{IsAdded, TellsOf, reason_line};
+ghost use Rattle.trace_collector_program.specs.Token.{is_token_byte, goes_on, is_token, shortest_token, without_last, without_end};
+ghost use Rattle.trace_collector_program.specs.declared.ProgramFault.TheVariants as faults;
+ghost use Rattle.trace_collector.specs.declared.engine.ReplayFault.TheVariants as replay_faults;
 
 use crate::reason::Reason;
 use crate::start::listen_at;
@@ -91,8 +94,30 @@ fn token_of_file(
     ensures token { IfOk result (λ token. IsTrue (is_token token.items)) }
     ensures long { IfOk result (λ token. shortest_token ≤ length token.items) }
     ensures fault { IfErr result IsOutside }
+    ensures told { reason.new.is_told ≡ reason.old.is_told }
+    ensures line { OnErr result (TellsOf path.now reason.old reason.new) }
+    ensures same { OnOk result (reason.new ≡ reason.old) }
 {
-    let mut token = read_file(rt, path, reason)?;
+    let bytes = read_file(rt, path, reason)?;
+    token_in(bytes, path, reason)
+}
+
+/// The token that the bytes of a file at this path spell, without the end of its line.
+fn token_in(bytes: Vec<u8>, path: &str, reason: &mut Reason) -> Result<Vec<u8>, ProgramFault>
+    // It is all of the text, where that is a token.
+    ensures whole { IfOk result (λ token. token.items ≡ without_end bytes.items) }
+    ensures token { IfOk result (λ token. IsTrue (is_token token.items)) }
+    ensures long { IfOk result (λ token. shortest_token ≤ length token.items) }
+    ensures refused { OnErr result ((is_token (without_end bytes.items) ≡ false)
+        ⊎ (length (without_end bytes.items) < shortest_token)) }
+
+    // Otherwise it is a fault of the file at this path.
+    ensures fault { IfErr result (λ fault. fault ≡ faults.Replay replay_faults.Line) }
+    ensures told { reason.new.is_told ≡ reason.old.is_told }
+    ensures line { OnErr result (TellsOf path.now reason.old reason.new) }
+    ensures same { OnOk result (reason.new ≡ reason.old) }
+{
+    let mut token = bytes;
     let len = without_end(token.as_slice()).len();
     token.truncate(len);
     if token.len() < SHORTEST_TOKEN {
@@ -136,14 +161,25 @@ fn is_token_byte(byte: u8) -> bool
 }
 
 /// A text without the end of its line.
-fn without_end(text: &[u8]) -> &[u8] {
-    let text = text.strip_suffix(b"\n".as_slice()).unwrap_or(text);
-    text.strip_suffix(b"\r".as_slice()).unwrap_or(text)
+fn without_end(text: &[u8]) -> &[u8]
+    ensures { result.now ≡ without_end text.now }
+{
+    without_last(without_last(text, b'\n'), b'\r')
+}
+
+/// A text without this byte at its end, if it stands there.
+fn without_last(text: &[u8], byte: u8) -> &[u8]
+    ensures { result.now ≡ without_last byte text.now }
+{
+    text.strip_suffix([byte].as_slice()).unwrap_or(text)
 }
 
 /// The fault of an option's value, whose reason is kept.
 fn told(reason: &mut Reason, what: &str, why: &str) -> ProgramFault
-    ensures { IsOutside result }
+    ensures fault { result ≡ faults.Replay replay_faults.Line }
+    ensures told { reason.new.is_told ≡ reason.old.is_told }
+    ensures line { IsAdded (string_bytes reason.old.lines) (reason_line what.now why.now)
+        (string_bytes reason.new.lines) }
 {
     reason.put(what, &why);
     ProgramFault::Replay(ReplayFault::Line)

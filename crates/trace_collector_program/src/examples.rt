@@ -1,6 +1,6 @@
 //! What the definitions say of arguments, statuses, faults, runs and tokens, on examples that were worked out by hand.
 
-ghost use Rattle.trace_collector_program.specs.Examples.{Arguments, Statuses, OfFiles, OfArguments, OfTexts, Runs, Tokens};
+ghost use Rattle.trace_collector_program.specs.Examples.{Arguments, Statuses, OfFiles, OfArguments, OfTexts, Runs, Tokens, Ends};
 
 /// The definitions, on small inputs, give what was worked out by hand.
 fn definitions_on_small_inputs()
@@ -11,4 +11,5 @@ fn definitions_on_small_inputs()
     ensures of_texts { OfTexts }
     ensures runs { Runs }
     ensures tokens { Tokens }
+    ensures ends { Ends }
 {}

@@ -146,3 +146,18 @@ returns-clause-tokens c = record {
   quoted = refl;
   not_ascii = refl;
 }
+
+pub returns-clause-ends : goal.returns-clause-ends
+returns-clause-ends c = record {
+  line_feed = refl;
+  both = refl;
+  carriage_return = refl;
+  no_end = refl;
+  two_line_feeds = refl;
+  two_carriage_returns = refl;
+  other_order = refl;
+  within = refl;
+  blank = refl;
+  end_alone = refl;
+  empty = refl;
+}
