@@ -10,6 +10,7 @@ use Rattle.httparse.proofs.PieceLemmas.{Stops_token}
 use Rattle.httparse.proofs.GrammarLemmas.{print_request-append, print_response-append}
 use Rattle.http1.proofs.TextLemmas.{front_within}
 use Rattle.http_edge.specs.Limits.{max_body}
+use Rattle.http_edge.specs.Message.{sized, chunked, HasNoBody}
 use Rattle.http_edge.specs.Chunks.{has_line_end, has_text, HasChunk, HasChunks, HasChunkedBody, StopsAt, LacksAt}
 use Rattle.http_edge.specs.declared.wire.Watch.{Watch}
 use Rattle.http_edge.specs.declared.head.HeadProgress.{HeadProgress}
@@ -233,11 +234,12 @@ body_text stream body after p =
       };
     }
 
--- no whole body stands at the front
-abbrev pub HasNoBody : List ℕ → Type 0
-HasNoBody stream = (body after : List ℕ) → ¬ (HasChunkedBody stream body after)
+-- a stream that is shorter than a body has none
+pub no_body_short : (n : ℕ) (stream : List ℕ) → length stream < n → HasNoBody (sized n) stream
+no_body_short n stream less = λ body after h.
+    absurd (omega (arith, ap length h.1, length-append body after, h.0, less))
 
-pub no_body_at_all : HasNoBody []
+pub no_body_at_all : HasNoBody chunked []
 no_body_at_all body after p =
     let t = body_text [] body after p in
     absurd (omega (
@@ -249,8 +251,8 @@ no_body_at_all body after p =
     ))
 
 -- the front that was searched has none, and it was looked at again or what follows ends no line: so there is none
-pub no_body_yet : (stream front more : List ℕ) (due : Bool) → stream ≡ front ++ more → HasNoBody front
-    → (due ≡ true → StopsAt LacksAt max_body stream) → (has_line_end more ≡ true → due ≡ true) → HasNoBody stream
+pub no_body_yet : (stream front more : List ℕ) (due : Bool) → stream ≡ front ++ more → HasNoBody chunked front
+    → (due ≡ true → StopsAt LacksAt max_body stream) → (has_line_end more ≡ true → due ≡ true) → HasNoBody chunked stream
 no_body_yet stream front more true e none lacks line = λ body after p. lacks_not (lacks refl) p
 no_body_yet stream front more false e none lacks line = λ body after p.
     let t = body_text stream body after p in
@@ -302,7 +304,7 @@ if_answer_head Begin.More {A} a = tt
 if_answer_head Begin.Bad {A} a = tt
 
 -- where the input has ended and all that came was searched, no whole body is found
-pub still_going : {A : Type 0} (ended : Bool) (stream front more body after : List ℕ) → stream ≡ front ++ more → HasNoBody front
+pub still_going : {A : Type 0} (ended : Bool) (stream front more body after : List ℕ) → stream ≡ front ++ more → HasNoBody chunked front
     → (ended ≡ true → more ≡ []) → HasChunkedBody stream body after → (ended ≡ false → A) → A
 still_going {A} true stream front more body after e none over p going =
     absurd (none body after (subst (λ v. HasChunkedBody v body after)

@@ -4,8 +4,8 @@ use Rattle.httparse.specs.Grammar.{RequestHead}
 use Rattle.http_edge.specs.declared.head.Head.{Head}
 use Rattle.http_edge.specs.declared.wire.EdgeFault.{EdgeFault}
 use Rattle.http_edge.specs.declared.wire.EdgeFault.TheVariants.{ReadFailed, WriteFailed, OutOfMemory}
-use Rattle.http_edge.specs.Message.{Request, Response, Message, Frame, sized, chunked, HasBody, HasMessage, request_of, with_body, closes, expects, is_bodiless, max_body}
-use Rattle.http_edge.specs.Talk.{Exchange, exchange_text, interim_text, Asks, told, Runs, Talks, Due, Lacks, Begins, MayInterim, interim, replying, at_reply, breaking, lacking}
+use Rattle.http_edge.specs.Message.{Request, Response, Message, Frame, sized, chunked, HasBody, HasMessage, request_of, with_body, closes, expects, HasNoBody, is_bodiless, max_body}
+use Rattle.http_edge.specs.Talk.{Exchange, exchange_text, interim_text, Asks, told, Runs, Talks, Due, Lacks, Begins, MayInterim, reading_body, interim, replying, at_reply, breaking, lacking}
 use Rattle.http_edge.specs.Reply.{continue_text, is_for_no_memory, no_memory_text}
 use Rattle.http_edge.specs.Stages.{IsHead, IsHeadOf, IsMessageOf, kept_if, frame_by, message_with, IsBrokenOff, IsShort, IsCut, IsOver, StaysOpen, Replies}
 use Rattle.http_edge.specs.Seen.{seen}
@@ -67,14 +67,31 @@ may_interim {bytes} {head} {h} read p = record {
   short = p.fits;
 }
 
-pub due_interim : {form : RefusalForm} {H : Type 0} (answers : H → Request → Response → H → Type 0) (s : H) {bytes : List ℕ} {head : Head}
-    {h : RequestHead} (read front missing : List ℕ) → IsHead bytes head h
-    → (if head.expects then continue_text else []) ≡ front ++ missing → Due form answers s (bytes ++ read) s (front
+-- a write of it failed
+pub due_interim : {form : RefusalForm} {H : Type 0} {fault : EdgeFault} (answers : H → Request → Response → H → Type 0) (s : H) {bytes : List ℕ} {head : Head}
+    {h : RequestHead} (read front missing : List ℕ) → fault ≡ WriteFailed → IsHead bytes head h
+    → (if head.expects then continue_text else []) ≡ front ++ missing → Due form fault answers s (bytes ++ read) s (front
     ++ missing)
-due_interim answers s {bytes} {head} {h} read front missing p e =
+due_interim answers s {bytes} {head} {h} read front missing is p e =
     let t : interim_text h ≡ front ++ missing = ap (λ (b : Bool). if b then continue_text else []) (sym p.says.expects)
     ∙ e in
-    rw (← t) (interim h (may_interim read p) refl)
+    rw (← t) (interim is h (may_interim read p) refl)
+
+-- a read of the body behind it failed
+pub due_body : {form : RefusalForm} {H : Type 0} {fault : EdgeFault} (answers : H → Request → Response → H → Type 0) (s : H) {bytes : List ℕ} {head : Head}
+    {h : RequestHead} (read : List ℕ) → fault ≡ ReadFailed → IsHead bytes head h
+    → HasNoBody (frame_by head.kind) (drop head.len bytes ++ read)
+    → Due form fault answers s (bytes ++ read) s (interim_text h ++ [])
+unfolding may_interim
+due_body answers s {bytes} {head} {h} read is p none =
+    rw (append-nil (interim_text h)) (reading_body is h (may_interim read p) none refl)
+
+-- the fault has another name
+pub due_of : {form : RefusalForm} {H : Type 0} {met fault : EdgeFault} {answers : H → Request → Response → H → Type 0} {old : H}
+    {rest : List ℕ} {new : H} {text : List ℕ} → met ≡ fault → Due form met answers old rest new text
+    → Due form fault answers old rest new text
+due_of {form} {answers = answers} {old} {rest} {new} {text} same due =
+    subst (λ (f : EdgeFault). Due form f answers old rest new text) same due
 
 -- what was written for a message: the interim text and then the reply
 pub first_moves : {L : Type 0} {gives takes : L → L → List ℕ → Type 0} {l0 l1 l2 : L} {read : List ℕ} (due : Bool) (h : RequestHead)
@@ -94,11 +111,12 @@ unfolding exchange_text
 reply_whole answers {old} {new} {m} {text} {missing} p = ap (λ v. interim_text m.head ++ v) p.text
     ∙ sym (append_assoc (interim_text m.head) text missing)
 
-pub due_reply : {form : RefusalForm} {H : Type 0} (answers : H → Request → Response → H
-    → Type 0) {old new : H} {m : Message} {text missing : List ℕ} (bytes after : List ℕ) → HasMessage bytes m after
-    → Replies form answers old new m text missing → Due form answers old bytes new ((interim_text m.head ++ text) ++ missing)
-due_reply answers {old} {new} {m} {text} {missing} bytes after has p =
-    rw (← reply_whole answers p) (replying (record { message = m; reply = p.reply }) after has p.answered)
+pub due_reply : {form : RefusalForm} {H : Type 0} {fault : EdgeFault} (answers : H → Request → Response → H
+    → Type 0) {old new : H} {m : Message} {text missing : List ℕ} (bytes after : List ℕ) → fault ≡ WriteFailed → HasMessage bytes m after
+    → Replies form answers old new m text missing
+    → Due form fault answers old bytes new ((interim_text m.head ++ text) ++ missing)
+due_reply answers {old} {new} {m} {text} {missing} bytes after is has p =
+    rw (← reply_whole answers p) (replying is (record { message = m; reply = p.reply }) after has p.answered)
 
 -- there was no memory for the bytes of the reply
 pub lacks_reply : {form : RefusalForm} {H : Type 0} (answers : H → Request → Response → H
@@ -216,12 +234,18 @@ write_failed ReadFailed read memory = absurd (read refl)
 write_failed WriteFailed read memory = refl
 write_failed OutOfMemory read memory = absurd (memory refl)
 
+-- and what is no failed write, and no want of memory, is a failed read
+pub read_failed : (fault : EdgeFault) → fault ≢ WriteFailed → fault ≢ OutOfMemory → fault ≡ ReadFailed
+read_failed ReadFailed write memory = refl
+read_failed WriteFailed write memory = absurd (write refl)
+read_failed OutOfMemory write memory = absurd (memory refl)
+
 -- a fault of the line broke the talk off
 pub breaks : {form : RefusalForm} {H : Type 0} {answers : H → Request → Response → H → Type 0} {old new : H} {fault : EdgeFault} {read : List ℕ}
-    (written missing : List ℕ) → fault ≢ OutOfMemory → (fault ≢ WriteFailed → missing ≡ [])
-    → Talks form answers (Due form answers) old read new (written ++ missing)
+    (written missing : List ℕ) → (fault ≢ WriteFailed → missing ≡ [])
+    → Talks form answers (Due form fault answers) old read new (written ++ missing)
     → Begins form fault answers old read new written
-breaks written missing line whole t = (
+breaks written missing whole t = (
   missing,
   record {
     exchanges = t.exchanges;
@@ -230,7 +254,7 @@ breaks written missing line whole t = (
     mid = t.mid;
     runs = t.runs;
     last = t.last;
-    due = breaking t.last line t.due;
+    due = breaking t.last t.due;
     writes = t.writes;
   },
   whole,

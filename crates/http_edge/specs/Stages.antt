@@ -239,7 +239,7 @@ pub record IsBrokenOff (form : RefusalForm) {H : Type 0} (fault : EdgeFault) (an
   pub written : List ℕ
   pub moves : Moves gives takes first last read written
   pub missing : List ℕ
-  pub due : Due form answers old (before ++ read) new (written ++ missing)
+  pub due : Due form fault answers old (before ++ read) new (written ++ missing)
   pub whole : fault ≡ ReadFailed → missing ≡ []
 
 -- the same of a whole talk
@@ -247,7 +247,7 @@ abbrev pub BreaksOff : RefusalForm → {H : Type 0} → EdgeFault → (H → Req
     → {L : Type 0} → (gives takes : L → L → List ℕ → Type 0) → (first last : L) → Type 0
 BreaksOff form fault answers old new gives takes first last = (read : List ℕ) × (written : List ℕ)
     × Moves gives takes first last read written
-    × (missing : List ℕ) × Talks form answers (Due form answers) old read new (written ++ missing)
+    × (missing : List ℕ) × Talks form answers (Due form fault answers) old read new (written ++ missing)
     × (fault ≡ ReadFailed → missing ≡ [])
 
 -- want of memory ended it, nothing was said of that, and what says it has a body or not

@@ -1,6 +1,6 @@
 //! The body of a message.
 ghost use Rattle.std.specs.Prelude.{◌≡◌, ◌≢◌, ℕ, ◌+◌, ◌<◌, ◌≤◌, min, List, [], ◌++◌, length, drop, vec_capacity, IfOk, OnOk, OnErr, true, false, Err, Ok};
-ghost use Rattle.http_edge.specs.Message.{sized, chunked, max_body};
+ghost use Rattle.http_edge.specs.Message.{sized, chunked, max_body, HasNoBody};
 ghost use Rattle.http_edge.specs.Limits.{first_room, max_read};
 ghost use Rattle.http_line.specs.Line.{Moves};
 ghost use Rattle.http_edge.specs.Steps.{work, HasFailed};
@@ -84,6 +84,9 @@ pub(crate) fn read_body<L: Line>(
     ensures whole { IfOk result (λ found. IfWhole found (L.ends line.new ≡ L.ends line.old)) }
     ensures on_error { OnErr result ((read : List ℕ)
         × Moves L.gives L.takes line.old line.new read []) }
+    ensures unread { result ≡ Err EdgeFault.ReadFailed → (read : List ℕ)
+        × Moves L.gives L.takes line.old line.new read []
+        × HasNoBody (frame_by kind) (drop from buffer.old.items ++ read) }
     ensures end { result ≡ Ok BodyRead.Ended → L.ends line.old < L.ends line.new }
     ensures work { OnOk result (work (L.reads_left line.new) buffer.new.items + from ≤ work
         (L.reads_left line.old) buffer.old.items) }
@@ -124,6 +127,9 @@ fn read_sized<L: Line>(
     ensures whole { IfOk result (λ found. IfWhole found (L.ends line.new ≡ L.ends line.old)) }
     ensures on_error { OnErr result ((read : List ℕ)
         × Moves L.gives L.takes line.old line.new read []) }
+    ensures unread { result ≡ Err EdgeFault.ReadFailed → (read : List ℕ)
+        × Moves L.gives L.takes line.old line.new read []
+        × HasNoBody (sized len) (drop from buffer.old.items ++ read) }
     ensures end { result ≡ Ok BodyRead.Ended → L.ends line.old < L.ends line.new }
     ensures work { OnOk result (work (L.reads_left line.new) buffer.new.items + from ≤ work
         (L.reads_left line.old) buffer.old.items) }
@@ -220,6 +226,9 @@ fn skip_sized<L: Line>(
     ensures whole { IfOk result (λ found. IfWhole found (L.ends line.new ≡ L.ends line.old)) }
     ensures on_error { OnErr result ((read : List ℕ)
         × Moves L.gives L.takes line.old line.new read []) }
+    ensures unread { result ≡ Err EdgeFault.ReadFailed → (read : List ℕ)
+        × Moves L.gives L.takes line.old line.new read []
+        × HasNoBody (sized len) (drop from buffer.old.items ++ read) }
     ensures end { result ≡ Ok BodyRead.Ended → L.ends line.old < L.ends line.new }
     ensures work { OnOk result (work (L.reads_left line.new) buffer.new.items + from ≤ work
         (L.reads_left line.old) buffer.old.items) }
@@ -259,6 +268,9 @@ fn read_chunks<L: Line>(
     ensures whole { IfOk result (λ found. IfWhole found (L.ends line.new ≡ L.ends line.old)) }
     ensures on_error { OnErr result ((read : List ℕ)
         × Moves L.gives L.takes line.old line.new read []) }
+    ensures unread { result ≡ Err EdgeFault.ReadFailed → (read : List ℕ)
+        × Moves L.gives L.takes line.old line.new read []
+        × HasNoBody chunked (buffer.old.items ++ read) }
     ensures end { result ≡ Ok BodyRead.Ended → L.ends line.old < L.ends line.new }
     ensures work { OnOk result (work (L.reads_left line.new) buffer.new.items ≤ work
         (L.reads_left line.old) buffer.old.items) }

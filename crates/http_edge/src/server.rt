@@ -10,7 +10,7 @@ ghost use Rattle.http_line.specs.Line.{Moves};
 ghost use Rattle.http_edge.specs.Steps.{work, HasFailed};
 ghost use Rattle.http_edge.specs.Seen.{seen, response_of};
 ghost use Rattle.http_edge.specs.Stages.{IsHeadProgress, IfHead, IsWatched, IsMessageOf, kept_if, StaysOpen, IsOver, IsCut, RepliesWhole, RepliesInPart, RepliesUnwritten, BreaksOff, StopsShort};
-ghost use Rattle.http_edge.specs.declared.wire.EdgeFault.TheVariants.{OutOfMemory};
+ghost use Rattle.http_edge.specs.declared.wire.EdgeFault.TheVariants.{ReadFailed, OutOfMemory};
 
 use crate::body::{BodyRead, read_body};
 use crate::head::{BodyKind, Head, HeadProgress, head_at};
@@ -186,6 +186,9 @@ fn read_head<L: Line>(
     ensures lacks { result ≡ Err OutOfMemory → (read : List ℕ)
         × Moves L.gives L.takes line.old line.new read []
         × (buffer.new.items ≡ buffer.old.items ++ read) × HasNoRequest buffer.new.items }
+    ensures unread { result ≡ Err ReadFailed → (read : List ℕ)
+        × Moves L.gives L.takes line.old line.new read []
+        × (buffer.new.items ≡ buffer.old.items ++ read) × HasNoRequest buffer.new.items }
     ensures work { OnOk result (work (L.reads_left line.new) buffer.new.items ≤ work
         (L.reads_left line.old) buffer.old.items) }
     ensures ends { L.ends line.old ≤ L.ends line.new }
@@ -230,6 +233,8 @@ fn look<L: Line>(
     ensures on_error { OnErr result ((read : List ℕ)
         × Moves L.gives L.takes line.old line.new read []) }
     ensures lacks { result ≡ Err OutOfMemory → Moves L.gives L.takes line.old line.new [] []
+        × (buffer.new.items ≡ buffer.old.items) × HasNoRequest buffer.new.items }
+    ensures unread { result ≡ Err ReadFailed → Moves L.gives L.takes line.old line.new [] []
         × (buffer.new.items ≡ buffer.old.items) × HasNoRequest buffer.new.items }
     ensures work { OnOk result (work (L.reads_left line.new) buffer.new.items ≤ work
         (L.reads_left line.old) buffer.old.items) }

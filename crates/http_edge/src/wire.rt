@@ -70,6 +70,9 @@ pub(crate) fn fill<L: Line>(
         × (buffer.new.items ≡ buffer.old.items ++ read)) }
     ensures on_error { OnErr result ((read : List ℕ)
         × Moves L.gives L.takes line.old line.new read []) }
+    ensures unread { result ≡ Err EdgeFault.ReadFailed
+        → Moves L.gives L.takes line.old line.new [] []
+        × (buffer.new.items ≡ buffer.old.items) }
     ensures end { IfOk result (λ more. more ≡ false → (buffer.new.items ≡ buffer.old.items)
         × (L.ends line.old < L.ends line.new)) }
     ensures more { result ≡ Ok true → L.ends line.new ≡ L.ends line.old }
@@ -111,6 +114,8 @@ pub(crate) fn fill_behind<L: Line>(
         × (buffer.new.items ≡ buffer.old.items ++ read)) }
     ensures on_error { OnErr result ((read : List ℕ)
         × Moves L.gives L.takes line.old line.new read []) }
+    ensures unread { result ≡ Err EdgeFault.ReadFailed
+        → Moves L.gives L.takes line.old line.new [] [] }
     ensures more { result ≡ Ok true → L.ends line.new ≡ L.ends line.old }
     ensures quiet { result ≡ Ok false → Moves L.gives L.takes line.old line.new [] [] }
     ensures end { result ≡ Ok false → L.ends line.old < L.ends line.new }

@@ -1,7 +1,7 @@
 -- What came of a connection, whether it was broken off or not.
 use Rattle.std.proofs.Common.{◌≡◌, ◌⊎◌, ℕ, List, [], ◌∷◌, Bool, Result, Ok, Err, OnOk, IfErr, inl, inr, subst, sym}
 use Rattle.http_edge.specs.Message.{Request, Response, request_of}
-use Rattle.http_edge.specs.Talk.{Talk, Begins, Exchange, Runs, Ends, waits, refuses, closing, Due, nothing, interim, refusing, replying, Lacks, at_front, behind_head, at_refusal, at_body, at_reply, IsDue, breaking, lacking}
+use Rattle.http_edge.specs.Talk.{Talk, Begins, Exchange, Runs, Ends, waits, refuses, closing, Due, reading_head, reading_body, interim, refusing, replying, Lacks, at_front, behind_head, at_refusal, at_body, at_reply, IsDue, breaking, lacking}
 use Rattle.http_edge.specs.declared.message.RefusalForm.{RefusalForm}
 use Rattle.http_edge.specs.declared.wire.EdgeFault.{EdgeFault}
 use Rattle.service_runtime.specs.Receiving.{IsTalk}
@@ -32,11 +32,12 @@ module _ {H : Type 0} (answers : H → Request → Response → H → Type 0) (K
     ends_keep (refuses text due same) = stays old new same
     ends_keep (closing e after message closes answer) = each old (request_of e.message) e.reply new answer
 
-    due_keep : {form : RefusalForm} {text : List ℕ} → Due form answers old rest new text → Keeps old new
-    due_keep (nothing same) = stays old new same
-    due_keep (interim h may same) = stays old new same
-    due_keep (refusing text due same) = stays old new same
-    due_keep (replying e after message answer) = each old (request_of e.message) e.reply new answer
+    due_keep : {form : RefusalForm} {fault : EdgeFault} {text : List ℕ} → Due form fault answers old rest new text → Keeps old new
+    due_keep (reading_head is none same) = stays old new same
+    due_keep (reading_body is h may none same) = stays old new same
+    due_keep (interim is h may same) = stays old new same
+    due_keep (refusing is text due same) = stays old new same
+    due_keep (replying is e after message answer) = each old (request_of e.message) e.reply new answer
 
     lacks_keep : {bodiless : Bool} {text : List ℕ} → Lacks answers old rest new bodiless text → Keeps old new
     lacks_keep (at_front lack same) = stays old new same
@@ -46,7 +47,7 @@ module _ {H : Type 0} (answers : H → Request → Response → H → Type 0) (K
     lacks_keep (at_reply e after message answer some) = each old (request_of e.message) e.reply new answer
 
     fault_keeps : {form : RefusalForm} {fault : EdgeFault} {text : List ℕ} → IsDue form fault answers old rest new text → Keeps old new
-    fault_keeps (breaking text other due) = due_keep due
+    fault_keeps (breaking text due) = due_keep due
     fault_keeps (lacking text bodiless other lacks) = lacks_keep lacks
 
   one_keeps : {form : RefusalForm} (old new : H) (read written : List ℕ)

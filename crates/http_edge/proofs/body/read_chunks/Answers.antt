@@ -2,7 +2,7 @@ use Rattle.std.proofs.Common.{◌≡◌, ◌++◌, Ok, length, drop, sym, ap, �
 use Rattle.std.proofs.lemmas.List.{drop_all}
 use Rattle.std.proofs.Math.Seq.{drop-append_seam}
 use Rattle.std.proofs.lemmas.Result.{err_from_is_err_and}
-use Rattle.http_line.proofs.Moved.{then}
+use Rattle.http_line.proofs.Moved.{then, then_to}
 use Rattle.http_edge.proofs.Pieces.{at_more, ended_by, goes_by}
 use Rattle.http_edge.proofs.Searched.{no_body_at_all, no_body_yet, still_going}
 use Rattle.http_line.specs.Line.{no_call}
@@ -106,3 +106,21 @@ returns-in-End-clause-whole g c =
     let q = rw c.in-End.is at p in
     still_going c.reads.ended (c.args.buffer.now.items ++ inv.read) inv.searched.0
     (drop c.reads.watch.seen c.reads.buffer.items) q.0 _ inv.searched.1 inv.searched.2 inv.watch.2 q.1 inv.going
+
+pub returns-in_err-more-clause-unread : goal.returns-in_err-more-clause-unread
+returns-in_err-more-clause-unread g c = λ is.
+    let fault = err_from_is_err_and c.from_residual-in_err-more.result c.from_residual-in_err-more.ensures.1 in
+    let told = fault.1 in
+    let same = fault.2 in
+    let inv = c.reads.invariant in
+    let quiet = c.in_err-more.ensures.unread (cc) in
+    let p = c.in_ok-taken.ensures.pieces (c.args.buffer.now.items ++ inv.read) inv.body (rw c.deref-in-reads.ensures.value
+    inv.so_far.1) inv.so_far.2 in
+    let q = rw (c.in-More.is, c.deref-in-reads.ensures.value) at p in
+    let begun = c.is_due-due.ensures.begun inv.watch.1 in
+    let line = rw c.deref.ensures.value at c.is_due-due.ensures.line in (
+      inv.read,
+      then_to inv.so_far.0 quiet.0 (append-nil inv.read) refl,
+      no_body_yet (c.args.buffer.now.items ++ inv.read) inv.searched.0 (drop c.reads.watch.seen c.reads.buffer.items)
+          c.is_due-due.result inv.searched.1 inv.searched.2 q.3 (λ met. line begun inv.watch.0 met),
+    )

@@ -1,9 +1,8 @@
 use Rattle.std.proofs.Common.{◌≡◌, ◌+◌, ◌<◌, ◌≤◌, true, false, List, ℕ, [], ◌++◌, length, drop}
-use Rattle.http_edge.specs.Limits.{max_body}
+use Rattle.http_edge.specs.Message.{chunked, max_body, HasNoBody}
 use Rattle.http_line.specs.Line.{Moves}
 use Rattle.http_edge.specs.Steps.{work}
 use Rattle.http_edge.specs.Stages.{bytes_due, Gathers, IsAt}
-use Rattle.http_edge.proofs.Searched.{HasNoBody}
 use Rattle.http_edge.proofs.body.read_chunks.Given as goal
 
 pub record Reads (P : List ℕ → List ℕ → Type 0) (F W Q R S E : Type 0) (H : List ℕ → Type 0) (N O U : Type 0) : Type 0 where
@@ -31,7 +30,7 @@ invariant-reads g l = Reads
     (g.L.Line.failed l.line ≡ g.L.Line.failed l.fn.line)
     (g.L.Line.ends l.fn.line ≤ g.L.Line.ends l.line)
     (l.ended ≡ true → g.L.Line.ends l.fn.line < g.L.Line.ends l.line)
-    (λ read. (front : List ℕ) × (l.fn.buffer.items ++ read ≡ front ++ drop l.watch.seen l.buffer.items) × HasNoBody front)
+    (λ read. (front : List ℕ) × (l.fn.buffer.items ++ read ≡ front ++ drop l.watch.seen l.buffer.items) × HasNoBody chunked front)
     ((l.watch.seen ≤ length l.buffer.items) × (l.watch.is_begun ≡ true)
     × (l.ended ≡ true → drop l.watch.seen l.buffer.items ≡ []))
     (l.ended ≡ false → g.L.Line.ends l.line ≡ g.L.Line.ends l.fn.line)

@@ -6,6 +6,7 @@ use Rattle.std.proofs.lemmas.Result.{err_from_is_err_and}
 use Rattle.http_line.specs.Line.{no_call}
 use Rattle.httparse.proofs.RunLemmas.{length-slice_range}
 use Rattle.http_edge.proofs.Fronts.{front_come, front_more, front_len}
+use Rattle.http_edge.proofs.Searched.{no_body_short}
 use Rattle.http_edge.proofs.body.skip_sized.Goals as goal
 
 pub returns-in_err-fill-clause-on_error : goal.returns-in_err-fill-clause-on_error
@@ -84,3 +85,18 @@ reads-preserved g c =
       kept = c.in_ok-fill.ensures.kept ∙ inv.kept;
       ends = c.in_ok-fill.ensures.more (ap Ok c.if-not-branch.false) ∙ inv.ends;
     }
+
+pub returns-in_err-fill-clause-unread : goal.returns-in_err-fill-clause-unread
+returns-in_err-fill-clause-unread g c = λ is.
+    let p = err_from_is_err_and c.from_residual.result c.from_residual.ensures.1 in
+    let told = p.1 in
+    let same = p.2 in
+    let inv = c.reads.invariant in
+    let quiet = c.in_err-fill.ensures.unread (cc) in
+    let less : 0 < c.reads.left = search rules in
+    let len = front_len inv.gone c.reads.buffer.items (drop c.args.from c.args.buffer.now.items
+    ++ inv.read) (inv.empty less) inv.so_far.1 in (
+      inv.read,
+      then_to inv.so_far.0 quiet.0 (append-nil inv.read) refl,
+      no_body_short c.args.len _ (omega (arith, len, less, inv.so_far.2)),
+    )

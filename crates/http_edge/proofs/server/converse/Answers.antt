@@ -2,7 +2,7 @@ use Rattle.std.proofs.Common.{◌++◌, [], ◌∷◌, Ok, refl, sym, ap, ◌∙
 use Rattle.std.proofs.lemmas.Result.{err_from_is_err_and}
 use Rattle.http_edge.specs.Talk.{told}
 use Rattle.http_line.proofs.Moved.{then, then_to}
-use Rattle.http_edge.proofs.Served.{runs_more, told_more, asks_more, asks_read}
+use Rattle.http_edge.proofs.Served.{due_of, runs_more, told_more, asks_more, asks_read}
 use Rattle.http_line.specs.Line.{no_call}
 use Rattle.http_edge.proofs.server.converse.Goals as goal
 
@@ -64,7 +64,7 @@ returns-in_err-exchange-clause-broken g c =
         mid = c.messages.handler;
         runs = inv.so_far.1;
         last = cut.written ++ cut.missing;
-        due = cut.due;
+        due = due_of (cc) cut.due;
         writes = append_assoc (told g.H.Handler.refusals inv.exchanges) cut.written cut.missing;
       },
       λ is. cut.whole (cc),

@@ -1,11 +1,11 @@
 use Rattle.std.proofs.Common.{Ok, [], refl, ap, ◌∙◌, append-nil, true, false, arith}
 use Rattle.std.proofs.lemmas.Result.{err_from_is_err_and}
-use Rattle.http_edge.specs.Talk.{RefusesHead, at_head, many_lines, nothing, refusing, waits, refuses, in_head, at_front, behind_head, at_refusal}
+use Rattle.http_edge.specs.Talk.{RefusesHead, at_head, many_lines, reading_head, refusing, waits, refuses, in_head, at_front, behind_head, at_refusal}
 use Rattle.http_edge.specs.Reply.{refusal_text}
 use Rattle.http_edge.specs.Stages.{IsHeadProgress}
 use Rattle.http_edge.specs.declared.head.HeadProgress.TheVariants.{More, TooMany, OutOfMemory}
 use Rattle.http_line.proofs.Moved.{then_to}
-use Rattle.http_edge.proofs.Served.{goes_after, over_after, cut_after, cut_by}
+use Rattle.http_edge.proofs.Served.{goes_after, over_after, cut_after, cut_by, read_failed, write_failed}
 use Rattle.http_edge.proofs.server.exchange.Goals as goal
 
 pub returns-in_err-read_head-clause-on_error : goal.returns-in_err-read_head-clause-on_error
@@ -14,7 +14,17 @@ returns-in_err-read_head-clause-on_error g c =
     let p = err_from_is_err_and c.from_residual.result c.from_residual.ensures.1 in
     let same = p.2 in
     rw p.1 (record {
-      broken = λ _. record { read = e.0; written = []; moves = e.1; missing = []; due = nothing refl; whole = λ _. refl };
+      broken = λ lack.
+          let is = read_failed _ (λ is. c.in_err-read_head.ensures.no_write (cc)) lack in
+          let l = c.in_err-read_head.ensures.unread (cc) in
+          record {
+            read = l.0;
+            written = [];
+            moves = l.1;
+            missing = [];
+            due = rw (← l.2) (reading_head is l.3 refl);
+            whole = λ _. refl;
+          };
       short = λ lack.
           let l = c.in_err-read_head.ensures.lacks (cc) in
           record { read = l.0; written = []; moves = l.1; lacks = rw (← l.2) (at_front l.3 refl) };
@@ -30,12 +40,13 @@ returns-in_err-refuse-in-Refuse-clause-on_error g c =
     c.from_residual-in_err-refuse-in-Refuse.ensures.1 in
     let same = p.2 in
     rw p.1 (record {
-      broken = λ _. record {
+      broken = λ lack. record {
         read = e.0;
         written = f.0;
         moves = then_to e.1 f.3 (append-nil _) refl;
         missing = f.1;
-        due = rw (← e.2, ← f.2) (refusing _ (at_head _ _ begin) refl);
+        due = rw (← e.2, ← f.2) (refusing (write_failed _ (λ is. c.in_err-refuse-in-Refuse.ensures.no_read (cc)) lack) _
+            (at_head _ _ begin) refl);
         whole = λ is. absurd (c.in_err-refuse-in-Refuse.ensures.no_read (cc));
       };
       short = λ lack. record {
@@ -55,12 +66,13 @@ returns-in_err-refuse-in-TooMany-clause-on_error g c =
     c.from_residual-in_err-refuse-in-TooMany.ensures.1 in
     let same = p.2 in
     rw p.1 (record {
-      broken = λ _. record {
+      broken = λ lack. record {
         read = e.0;
         written = f.0;
         moves = then_to e.1 f.3 (append-nil _) refl;
         missing = f.1;
-        due = rw (← e.2, ← f.2) (refusing _ (many_lines begin.0 begin.1 begin.2) refl);
+        due = rw (← e.2, ← f.2) (refusing (write_failed _ (λ is. c.in_err-refuse-in-TooMany.ensures.no_read (cc)) lack) _
+            (many_lines begin.0 begin.1 begin.2) refl);
         whole = λ is. absurd (c.in_err-refuse-in-TooMany.ensures.no_read (cc));
       };
       short = λ lack. record {

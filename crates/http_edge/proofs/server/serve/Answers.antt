@@ -7,12 +7,12 @@ use Rattle.http_edge.proofs.server.serve.Goals as goal
 pub returns-in-Err-ReadFailed-clause-fault : goal.returns-in-Err-ReadFailed-clause-fault
 returns-in-Err-ReadFailed-clause-fault g c =
     let t = (rw (c.in-Err-ReadFailed.is ∙ ap Err c.in-Err-ReadFailed.field-0-is) at c.converse.ensures.broken) (λ is. cc) in
-    (t.0, t.1, t.2, breaks t.1 t.3 (λ is. cc) (λ _. t.5 refl) t.4)
+    (t.0, t.1, t.2, breaks t.1 t.3 (λ _. t.5 refl) t.4)
 
 pub returns-in-Err-WriteFailed-clause-fault : goal.returns-in-Err-WriteFailed-clause-fault
 returns-in-Err-WriteFailed-clause-fault g c =
     let t = (rw (c.in-Err-WriteFailed.is ∙ ap Err c.in-Err-WriteFailed.field-0-is) at c.converse.ensures.broken) (λ is. cc) in
-    (t.0, t.1, t.2, breaks t.1 t.3 (λ is. cc) (λ other. absurd (other refl)) t.4)
+    (t.0, t.1, t.2, breaks t.1 t.3 (λ other. absurd (other refl)) t.4)
 
 pub returns-in_err-send-in-Err-OutOfMemory-clause-fault : goal.returns-in_err-send-in-Err-OutOfMemory-clause-fault
 returns-in_err-send-in-Err-OutOfMemory-clause-fault g c =

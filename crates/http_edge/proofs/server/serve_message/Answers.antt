@@ -7,7 +7,7 @@ use Rattle.http_edge.specs.Talk.{Due, Ends, exchange_text, waits, refuses, refus
 use Rattle.http_edge.specs.Reply.{continue_text, refusal_text}
 use Rattle.http_line.proofs.Moved.{then_to}
 use Rattle.http_edge.proofs.Heads.{has_head_more, head_some}
-use Rattle.http_edge.proofs.Served.{cut_text, due_interim, due_reply, lacks_reply, may_interim, first_moves, all_moves, whole_message, message_kept, reply_whole, not_is, not_is_not}
+use Rattle.http_edge.proofs.Served.{cut_text, due_interim, due_body, due_reply, read_failed, write_failed, lacks_reply, may_interim, first_moves, all_moves, whole_message, message_kept, reply_whole, not_is, not_is_not}
 use Rattle.http_edge.proofs.server.serve_message.Goals as goal
 
 pub returns-in_err-interim-clause-on_error : goal.returns-in_err-interim-clause-on_error
@@ -16,13 +16,13 @@ returns-in_err-interim-clause-on_error g c =
     let p = err_from_is_err_and c.from_residual.result c.from_residual.ensures.1 in
     let same = p.2 in
     rw p.1 (record {
-      broken = λ _. record {
+      broken = λ lack. record {
         read = [];
         written = e.0;
         moves = e.3;
         missing = e.1;
         due = due_interim g.H.Handler.answers
-            c.args.handler.now [] e.0 e.1 c.requires.1 e.2;
+            c.args.handler.now [] e.0 e.1 (write_failed _ (λ is. c.in_err-interim.ensures.no_read (cc)) lack) c.requires.1 e.2;
         whole = λ is. absurd (c.in_err-interim.ensures.no_read (cc));
       };
       short = λ lack. absurd (c.in_err-interim.ensures.no_memory (cc));
@@ -33,21 +33,23 @@ returns-in_err-read_body-clause-on_error g c =
     let is = c.requires.1 in
     let e = c.in_err-read_body.ensures.on_error in
     let p = err_from_is_err_and c.from_residual-in_err-read_body.result c.from_residual-in_err-read_body.ensures.1 in
-    let moves = first_moves c.args.head.expects c.requires.0 is.says.expects c.in_ok-interim.ensures.on_success e.1 in
+    let same = p.2 in
     rw p.1 (record {
-      broken = λ _. record {
-        read = e.0;
-        written = interim_text c.requires.0;
-        moves = moves;
-        missing = [];
-        due = due_interim g.H.Handler.answers c.args.handler.now e.0 (interim_text c.requires.0) [] is (ap (λ (b : Bool).
-            cond b continue_text []) is.says.expects ∙ sym (append-nil _));
-        whole = λ _. refl;
-      };
+      broken = λ lack.
+          let failed = read_failed _ (λ fault_is. c.in_err-read_body.ensures.no_write (cc)) lack in
+          let u = c.in_err-read_body.ensures.unread (cc) in
+          record {
+            read = u.0;
+            written = interim_text c.requires.0;
+            moves = first_moves c.args.head.expects c.requires.0 is.says.expects c.in_ok-interim.ensures.on_success u.1;
+            missing = [];
+            due = due_body g.H.Handler.answers c.args.handler.now u.0 failed is u.2;
+            whole = λ _. refl;
+          };
       short = λ _. record {
         read = e.0;
         written = interim_text c.requires.0;
-        moves = moves;
+        moves = first_moves c.args.head.expects c.requires.0 is.says.expects c.in_ok-interim.ensures.on_success e.1;
         lacks = rw is.says.bodiless (at_body c.requires.0 (may_interim e.0 is) refl);
       };
     })
@@ -64,14 +66,14 @@ returns-in_err-refuse-in-TooLong-clause-on_error g c =
     c.from_residual-in_err-refuse-in-TooLong.ensures.1 in
     let same = p.2 in
     rw p.1 (record {
-      broken = λ _. record {
+      broken = λ lack. record {
         read = e.0;
         written = interim_text c.requires.0 ++ f.0;
         moves = all_moves c.args.head.expects c.requires.0 is.says.expects c.in_ok-interim.ensures.on_success e.1 f.3;
         missing = f.1;
-        due = subst (Due g.H.Handler.refusals g.H.Handler.answers c.args.handler.now (c.args.buffer.now.items ++ e.0) c.args.handler.now)
+        due = subst (Due g.H.Handler.refusals _ g.H.Handler.answers c.args.handler.now (c.args.buffer.now.items ++ e.0) c.args.handler.now)
             (cut_text (interim_text c.requires.0) f.0 f.1 (ap (λ (b : Bool). refusal_text g.H.Handler.refusals b 413) (sym is.says.bodiless)
-            ∙ f.2)) (refusing _ bad refl);
+            ∙ f.2)) (refusing (write_failed _ (λ fault_is. c.in_err-refuse-in-TooLong.ensures.no_read (cc)) lack) _ bad refl);
         whole = λ fault_is. absurd (c.in_err-refuse-in-TooLong.ensures.no_read (cc));
       };
       short = λ lack. record {
@@ -95,14 +97,14 @@ returns-in_err-refuse-in-Bad-clause-on_error g c =
     c.from_residual-in_err-refuse-in-Bad.ensures.1 in
     let same = p.2 in
     rw p.1 (record {
-      broken = λ _. record {
+      broken = λ lack. record {
         read = e.0;
         written = interim_text c.requires.0 ++ f.0;
         moves = all_moves c.args.head.expects c.requires.0 is.says.expects c.in_ok-interim.ensures.on_success e.1 f.3;
         missing = f.1;
-        due = subst (Due g.H.Handler.refusals g.H.Handler.answers c.args.handler.now (c.args.buffer.now.items ++ e.0) c.args.handler.now)
+        due = subst (Due g.H.Handler.refusals _ g.H.Handler.answers c.args.handler.now (c.args.buffer.now.items ++ e.0) c.args.handler.now)
             (cut_text (interim_text c.requires.0) f.0 f.1 (ap (λ (b : Bool). refusal_text g.H.Handler.refusals b 400) (sym is.says.bodiless)
-            ∙ f.2)) (refusing _ bad refl);
+            ∙ f.2)) (refusing (write_failed _ (λ fault_is. c.in_err-refuse-in-Bad.ensures.no_read (cc)) lack) _ bad refl);
         whole = λ fault_is. absurd (c.in_err-refuse-in-Bad.ensures.no_read (cc));
       };
       short = λ lack. record {
@@ -129,12 +131,13 @@ returns-in_err-goes-in-Whole-clause-on_error g c =
     c.from_residual-in_err-goes-in-Whole.ensures.1 in
     let same = p.2 in
     rw p.1 (record {
-      broken = λ _. record {
+      broken = λ lack. record {
         read = e.0;
         written = interim_text h ++ a.0;
         moves = all_moves c.args.head.expects h is.says.expects c.in_ok-interim.ensures.on_success e.1 a.1;
         missing = a.2;
-        due = due_reply g.H.Handler.answers (c.args.buffer.now.items ++ e.0) c.read_body.new.buffer.items has a.3;
+        due = due_reply g.H.Handler.answers (c.args.buffer.now.items ++ e.0) c.read_body.new.buffer.items
+            (write_failed _ (λ fault_is. c.in_err-goes-in-Whole.ensures.no_read (cc)) lack) has a.3;
         whole = λ fault_is. absurd (c.in_err-goes-in-Whole.ensures.no_read (cc));
       };
       short = λ lack.

@@ -1,4 +1,4 @@
-use Rattle.std.proofs.Common.{◌≡◌, [], take, arith, rules}
+use Rattle.std.proofs.Common.{◌≡◌, [], take, refl, arith, rules}
 use Rattle.std.proofs.lemmas.Result.{err_from_is_err_and}
 use Rattle.std.proofs.lemmas.Grind.{common_steps}
 use Rattle.http_line.proofs.Moved.{by_read}
@@ -20,3 +20,6 @@ returns-in_ok-extend_from_slice-in-Ok-clause-quiet g c = λ is.
 
 pub returns-in-Err-clause-on_error : goal.returns-in-Err-clause-on_error
 returns-in-Err-clause-on_error g c = ([], by_read c.in-Err.ensures.on_error)
+
+pub returns-in-Err-clause-unread : goal.returns-in-Err-clause-unread
+returns-in-Err-clause-unread g c = λ _. (by_read c.in-Err.ensures.on_error, refl)

@@ -32,3 +32,6 @@ returns-in-Ok-clause-quiet g c = λ is.
 
 pub returns-in-Err-clause-on_error : goal.returns-in-Err-clause-on_error
 returns-in-Err-clause-on_error g c = ([], by_read c.in-Err.ensures.on_error)
+
+pub returns-in-Err-clause-unread : goal.returns-in-Err-clause-unread
+returns-in-Err-clause-unread g c = λ _. by_read c.in-Err.ensures.on_error
