@@ -1,5 +1,5 @@
 //! Replies as bytes.
-ghost use Rattle.std.specs.Prelude.{◌≡◌, IfOk, false, decimal, if◌then◌else◌};
+ghost use Rattle.std.specs.Prelude.{◌≡◌, IfOk, IfSome, false, decimal, if◌then◌else◌};
 ghost use Rattle.http_edge.specs.Seen.{response_of};
 ghost use Rattle.http_edge.specs.Reply.{phrase_of, advice_of, allow_line, close_line, type_line, head_text_of, plain_text, reply_text, out_of_memory, is_for_no_memory, refusal_body, refusal_media, refusal_message};
 
@@ -76,6 +76,20 @@ Content-Length: 25\r\n\r\n",
 Connection: close\r\nContent-Length: 25\r\n\r\n{\"error\":\"out of memory\"}",
         (true, true) => b"HTTP/1.1 503 Service Unavailable\r\nContent-Type: application/json\r\n\
 Connection: close\r\nContent-Length: 25\r\n\r\n",
+    }
+}
+
+/// The bytes of the reply to a post of which all was taken, where the connection goes on: they take no memory. None for
+/// any other reply.
+pub(crate) fn taken_bytes(reply: &Reply, close: bool, bodiless: bool) -> Option<&'static [u8]>
+    ensures { IfSome result (λ text. text.now
+        ≡ plain_text bodiless close (response_of reply.now)) }
+{
+    match (reply.status, reply.media, reply.body.len(), close, bodiless) {
+        (200, MediaType::Protobuf, 0, false, false) => Some(
+            b"HTTP/1.1 200 OK\r\nContent-Type: application/x-protobuf\r\nContent-Length: 0\r\n\r\n",
+        ),
+        _ => None,
     }
 }
 

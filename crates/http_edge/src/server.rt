@@ -15,7 +15,9 @@ ghost use Rattle.http_edge.specs.declared.wire.EdgeFault.TheVariants.{ReadFailed
 use crate::body::{BodyRead, read_body};
 use crate::head::{BodyKind, Head, HeadProgress, head_at};
 use crate::message::{Allow, Handler, HttpMessage, RefusalForm, Reply};
-use crate::reply::{is_for_no_memory, no_memory_bytes, plain_bytes, refusal_body, refusal_media};
+use crate::reply::{
+    is_for_no_memory, no_memory_bytes, plain_bytes, refusal_body, refusal_media, taken_bytes,
+};
 use crate::wire::{EdgeFault, READ_AT_MOST, Room, Watch, fill, send};
 use http_line::Line;
 use std::alloc::{AllocError, Global};
@@ -512,6 +514,9 @@ fn write_reply<L: Line>(
 {
     if is_for_no_memory(reply) {
         return send(line, no_memory_bytes(form, close, bodiless));
+    }
+    if let Some(bytes) = taken_bytes(reply, close, bodiless) {
+        return send(line, bytes);
     }
     let bytes = plain_bytes(alloc, reply, close, bodiless)?;
     send(line, &bytes)
