@@ -268,7 +268,7 @@ fn look<L: Line>(
 }
 
 /// What the bytes begin with, where it is time to look and they aren't less than a head. Before it is time they are: no
-/// line has ended since the last look.
+/// line has ended since the last look. Where there is no byte nothing is looked at.
 fn head_due(alloc: Global, bytes: &[u8], watch: &mut Watch) -> Option<HeadProgress>
     requires { IsWatched HasNoRequest bytes.now watch.old }
     ensures found { IfSome result (IsHeadProgress bytes.now) }
@@ -277,7 +277,7 @@ fn head_due(alloc: Global, bytes: &[u8], watch: &mut Watch) -> Option<HeadProgre
     ensures seen { watch.new.seen ≡ length bytes.now }
     ensures blank { watch.new.is_begun ≡ false → has_text bytes.now ≡ false }
 {
-    if watch.is_due(bytes, false) {
+    if watch.is_due(bytes, false) && !bytes.is_empty() {
         head_there(alloc, bytes)
     } else {
         None
