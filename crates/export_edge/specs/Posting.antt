@@ -9,14 +9,15 @@ use Rattle.http_edge.specs.declared.wire.EdgeFault.{EdgeFault}
 use Rattle.http_edge.specs.declared.wire.EdgeFault.TheVariants.{OutOfMemory, ReadFailed, WriteFailed}
 
 -- Between two states of a line first the post was written, whole, and nothing read, and then bytes were read, and
--- nothing written: these tell the answer, where the input had ended or not.
-pub record Exchanges {L : Type 0} (gives takes : L → L → List ℕ → Type 0) (ends : L → ℕ) (post : List ℕ) (old new : L)
-    (answer : AnswerData) : Type 0 where
+-- nothing written: these tell the answer, where the input had ended or not. No call of the line has failed.
+pub record Exchanges {L : Type 0} (gives takes : L → L → List ℕ → Type 0) (ends failed : L → ℕ) (post : List ℕ)
+    (old new : L) (answer : AnswerData) : Type 0 where
   pub between : L
   pub writes : Moves gives takes old between [] post
   pub read : List ℕ
   pub reads : Moves gives takes between new read []
   pub tells : Tells read (nat_lt (ends between) (ends new)) answer
+  pub kept : failed new ≡ failed old
 
 -- Between two states of a line the same began, and this fault broke it off.
 pub data BreaksOff {L : Type 0} (gives takes : L → L → List ℕ → Type 0) (failed : L → ℕ) (post : List ℕ) (old new : L)
@@ -36,7 +37,7 @@ pub data BreaksOff {L : Type 0} (gives takes : L → L → List ℕ → Type 0) 
 -- What a post over a line comes to: what the bytes read tell, or no whole answer, where a fault broke it off.
 pub data ComesTo {L : Type 0} (gives takes : L → L → List ℕ → Type 0) (ends failed : L → ℕ) (post : List ℕ)
     (old new : L) : AnswerData → Type 0 where
-  answered : (answer : AnswerData) → Exchanges gives takes ends post old new answer
+  answered : (answer : AnswerData) → Exchanges gives takes ends failed post old new answer
       → ComesTo gives takes ends failed post old new answer
   broken : (fault : EdgeFault) → BreaksOff gives takes failed post old new fault
       → ComesTo gives takes ends failed post old new Failed

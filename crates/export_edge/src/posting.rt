@@ -33,7 +33,7 @@ fn exchange<L: Line>(
     payload: &[u8],
 ) -> Result<Answer, EdgeFault>
     ensures on_success { IfOk result (λ answer. Exchanges L.gives L.takes L.ends
-        (post_text host.now payload.now) line.old
+        L.failed (post_text host.now payload.now) line.old
         line.new (answer_view answer)) }
     ensures on_error { IfErr result (λ fault. BreaksOff L.gives L.takes L.failed
         (post_text host.now payload.now) line.old
