@@ -1,6 +1,7 @@
 //! A service's admin port.
 
-ghost use Rattle.std.specs.Prelude.{◌≡◌, Some, is_some, option_map};
+ghost use Rattle.std.specs.Prelude.{◌≡◌, IfSome, is_some, option_map};
+ghost use Rattle.service_runtime.specs.Visit.{HasAdminLimits};
 
 use crate::desk::AdminDesk;
 use crate::entrance::Entrance;
@@ -51,7 +52,7 @@ impl<'h> AdminEntrance<'h> {
     /// At this port.
     pub(crate) fn at(port: AdminPort<'h>) -> AdminEntrance<'h>
         ensures port { result.port ≡ port.entry }
-        ensures bytes { result.entrance.patience.bytes ≡ Some 262144 }
+        ensures limits { HasAdminLimits result.entrance.patience }
     {
         let patience = Patience {
             rest: Some(Duration::from_secs(LONGEST_REST)),
@@ -69,6 +70,8 @@ impl<'h> AdminEntrance<'h> {
 pub fn admin_entrance_of<'h>(port: Option<AdminPort<'h>>) -> Option<AdminEntrance<'h>>
     ensures there { is_some result ≡ is_some port.entry }
     ensures port { option_map (λ admin. admin.port) result ≡ port.entry }
+    // Who comes in there has these limits.
+    ensures limits { IfSome result (λ admin. HasAdminLimits admin.entrance.patience) }
 {
     match port {
         Some(port) => Some(AdminEntrance::at(port)),
