@@ -24,41 +24,45 @@ given_with P r x is p = subst (λ s. IfOk s P) is p
 abbrev pub left_of : List Entry → List Change → Standing
 left_of tenants changes = record { present = map entry_of tenants; changes = changes }
 
--- the parts of it, one after the other, where the input didn't fail
+-- the parts of it, one after the other, where the input didn't fail, with the changes that were made to its end
 pub directed : {T E : Type 0} (port : Bool) (reads : Reads) (heard : Result T E) (x : T) (first : SettingsData) (shards : ℕ) (standing : Standing)
-    (tenants : List Entry) (changes : List Change) (input : Option (List ℕ)) (so_far text written : Output) (c0 c1 c2 c3 : CallerState) (m0 m1 m2 m3 : ℕ)
+    (tenants : List Entry) (changes at_end : List Change) (input : Option (List ℕ)) (so_far text written : Output) (c0 c1 c2 c3 : CallerState) (m0 m1 m2 m3 : ℕ)
     → heard ≡ Ok x → OnOk heard (AreCommandsRead port reads first shards input standing c0 m0 so_far (left_of tenants changes) c1 m1 text)
     → AreDrained shards c1 m1 (map number tenants) c2 m2 → AreEmptyOn c2 shards (map number tenants)
-    → AreReported shards c2 m2 text (map entry_of tenants) c3 m3 written
-    → IsDirected port reads first standing shards input c0 m0 so_far c3 m3 written
-directed port reads heard x first shards standing tenants changes input so_far text written c0 c1 c2 c3 m0 m1 m2 m3 h read drained empty reported = record {
-  left = left_of tenants changes;
-  after_input = c1;
-  input_end = m1;
-  text = text;
-  heard = given_ok {P = AreCommandsRead port reads first shards input standing c0 m0 so_far (left_of tenants changes) c1 m1 text} heard x h read;
-  after_drains = c2;
-  drain_end = m2;
-  drained = subst (λ ns. AreDrained shards c1 m1 ns c2 m2) (sym (numbers tenants)) drained;
-  empty = subst (AreEmptyOn c2 shards) (sym (numbers tenants)) empty;
-  told = reported;
-}
+    → AreReported shards c2 m2 text (map entry_of tenants) c3 m3 written → at_end ≡ changes
+    → (course : IsDirected port reads first standing shards input c0 m0 so_far c3 m3 written) × (at_end ≡ course.left.changes)
+directed port reads heard x first shards standing tenants changes at_end input so_far text written c0 c1 c2 c3 m0 m1 m2 m3 h read drained empty reported same = (
+  record {
+    left = left_of tenants changes;
+    after_input = c1;
+    input_end = m1;
+    text = text;
+    heard = given_ok {P = AreCommandsRead port reads first shards input standing c0 m0 so_far (left_of tenants changes) c1 m1 text} heard x h read;
+    after_drains = c2;
+    drain_end = m2;
+    drained = subst (λ ns. AreDrained shards c1 m1 ns c2 m2) (sym (numbers tenants)) drained;
+    empty = subst (AreEmptyOn c2 shards) (sym (numbers tenants)) empty;
+    told = reported;
+  },
+  same,
+)
 
 -- the caller was a new one, of so many shards, and is the first of all, and no change was made before
-pub course_from : {E : Type 0} (mine port : Bool) (reads : Reads) (r : Result ℕ E) (settings : SettingsData) (present : Present) (changes : List Change) (all shards : ℕ)
+pub course_from : {E : Type 0} (mine port : Bool) (reads : Reads) (r : Result ℕ E) (settings : SettingsData) (present : Present) (changes at_end : List Change) (all shards : ℕ)
     (input so_far written : Option (List ℕ)) (old fresh new : CallerState) (before last : ℕ) (callers : List CallerState) → mine ≡ port → all ≡ shards → old ≡ fresh → changes ≡ []
     → (others : List CallerState) × (callers ≡ new ∷ others)
-    → IfOk r (λ lost. IsDirected mine reads settings (record { present = present; changes = changes }) all input old before (so_far, 0) new last (written, lost))
+    → IfOk r (λ lost. (course : IsDirected mine reads settings (record { present = present; changes = changes }) all input old before (so_far, 0) new last (written, lost))
+    × (at_end ≡ course.left.changes))
     → IfOk r (λ lost. IsCourse port reads settings present shards input fresh (so_far, 0) callers (written, lost))
-course_from mine port reads (Ok x) settings present changes all shards input so_far written old fresh new before last callers has_admin_port same is none own directed = record {
+course_from mine port reads (Ok x) settings present changes at_end all shards input so_far written old fresh new before last callers has_admin_port same is none own directed = record {
   before = before;
   last = last;
   own = new;
   others = own.0;
   callers_are = own.1;
-  directed = rw (has_admin_port, same, is, none) at directed;
+  directed = rw (has_admin_port, same, is, none) at directed.0;
 }
-course_from mine port reads (Err e) settings present changes all shards input so_far written old fresh new before last callers has_admin_port same is none own directed = tt
+course_from mine port reads (Err e) settings present changes at_end all shards input so_far written old fresh new before last callers has_admin_port same is none own directed = tt
 
 -- the same where the input didn't fail, of so many shards, of that new caller and of those tenants
 pub course_told : {E : Type 0} (port : Bool) (reads : Reads) (r : Result ℕ E) (lost : ℕ) (settings table : SettingsData) (tenants present : Present) (slots shards : ℕ)

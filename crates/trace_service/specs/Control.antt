@@ -1,6 +1,6 @@
 -- What who reads the input does, in the code's terms: where it works, its list of tenants, and what its output got,
 -- before it and then. This project's own rule.
-use Rattle.std.specs.Prelude.{ℕ, List, length, string_bytes, Bool, Option, is_some}
+use Rattle.std.specs.Prelude.{◌≡◌, ℕ, List, length, string_bytes, Bool, Option, is_some}
 use Rattle.otlp_front.specs.Route.{number_of}
 use Rattle.service_runtime.specs.Documents.{Reads}
 use Rattle.service_runtime.specs.Output.{Output, IsPut}
@@ -25,12 +25,14 @@ module _ {J R D : Type 0} {n : Ghosts J} {m : SettingsGhosts J} where
   abbrev pub standing_of : Control J R D n m → Roster → Standing
   standing_of control known = standing_with known control.registrar
 
-  -- all lines of the input were answered, all tenants sent what they held, and each one's report was written
+  -- all lines of the input were answered, all tenants sent what they held, and each one's report was written; once the
+  -- lines were answered the settings were changed no more
   abbrev pub Directs : Reads → SettingsData → Option (List ℕ) → Control J R D n m → Output → Control J R D n m → Output
       → Type 0
   Directs reads first input old so_far new written =
-      IsDirected (is_some old.admin) reads first (standing_of old old.roster) (length old.context.hub.now) input
-      old.context.caller old.beat.last so_far new.context.caller new.beat.last written
+      (course : IsDirected (is_some old.admin) reads first (standing_of old old.roster) (length old.context.hub.now)
+      input old.context.caller old.beat.last so_far new.context.caller new.beat.last written)
+      × (new.registrar ≡ course.left.changes)
 
   -- all lines of the input were answered
   abbrev pub ReadsCommands : Bool → Reads → SettingsData → Option (List ℕ) → Control J R D n m → Roster → Output

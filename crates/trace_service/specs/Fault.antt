@@ -2,6 +2,8 @@
 use Rattle.std.specs.Prelude.{◌≡◌, ◌≢◌}
 use Rattle.std.specs.declared.io.ErrorKind.{ErrorKind}
 use Rattle.std.specs.declared.io.ErrorKind.TheVariants as kinds
+use Rattle.shared_hub.specs.declared.fault.HubFault.{HubFault}
+use Rattle.shared_hub.specs.declared.fault.HubFault.TheVariants as hub
 use Rattle.trace_service.specs.declared.service.ServiceFault.{ServiceFault}
 use Rattle.trace_service.specs.declared.service.ServiceFault.TheVariants.{Line, OutOfMemory}
 
@@ -9,3 +11,9 @@ use Rattle.trace_service.specs.declared.service.ServiceFault.TheVariants.{Line, 
 pub record IsOfLine (kind : ErrorKind) (fault : ServiceFault) : Type 0 where
   pub memory : kind ≡ kinds.OutOfMemory → fault ≡ OutOfMemory
   pub other : kind ≢ kinds.OutOfMemory → fault ≡ Line
+
+-- of a hub's faults only the want of memory is told apart
+abbrev pub of_hub : HubFault → ServiceFault
+of_hub hub.OutOfMemory = OutOfMemory
+of_hub (hub.Behind entries) = Line
+of_hub (hub.OtherEntry receipt) = Line

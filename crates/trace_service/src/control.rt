@@ -139,6 +139,7 @@ where
         ensures reported { AreReported (length self.old.context.hub.now) self.old.context.caller
             self.old.beat.last (O.contents output.old, lost.old) (map entry_of tenants.now)
             self.new.context.caller self.new.beat.last (O.contents output.new, lost.new) }
+        ensures changes { self.new.registrar ≡ self.old.registrar }
     {
         for tenant in tenants {
             self.print_report(output, lost, tenant);
@@ -154,6 +155,7 @@ where
             self.old.beat.last (map (λ tenant. tenant.number) tenants.now) self.new.context.caller
             self.new.beat.last }
         ensures hub { self.new.context.hub ≡ self.old.context.hub }
+        ensures changes { self.new.registrar ≡ self.old.registrar }
     {
         hurry(
             self.rt,
@@ -198,6 +200,7 @@ where
         ensures caller { self.new.context.caller ≡ self.old.context.caller }
         ensures hub { self.new.context.hub ≡ self.old.context.hub }
         ensures last { self.new.beat.last ≡ self.old.beat.last }
+        ensures changes { self.new.registrar ≡ self.old.registrar }
     {
         let mut awaited = None;
         'looks: for _ in self.rt.forever() {
@@ -217,6 +220,7 @@ where
         ensures caller { self.new.context.caller ≡ self.old.context.caller }
         ensures hub { self.new.context.hub ≡ self.old.context.hub }
         ensures last { self.new.beat.last ≡ self.old.beat.last }
+        ensures changes { self.new.registrar ≡ self.old.registrar }
     {
         for tenant in tenants {
             if !self.context.is_empty(tenant.number) {

@@ -10,11 +10,10 @@ ghost use Rattle.shared_hub.specs.Logs.{AreLogged, AreOneRun, AreOneHistory};
 ghost use Rattle.shared_hub.specs.Shards.{AreOpened, kept};
 ghost use Rattle.tail_settings.specs.Settings.{SettingsData, settings_view};
 ghost use Rattle.shard_machine.specs.MachineState.{MachineDoes};
-ghost use Rattle.shared_hub.specs.declared.fault.HubFault.TheVariants as hub_faults;
 ghost use Rattle.tenant_registry.specs.Roster.{present_in};
 ghost use Rattle.trace_service.specs.Audit.{IsFollowed, audit_text};
 ghost use Rattle.trace_service.specs.Control.{Directs};
-ghost use Rattle.trace_service.specs.Fault.{IsOfLine};
+ghost use Rattle.trace_service.specs.Fault.{IsOfLine, of_hub};
 ghost use Rattle.trace_service.specs.Jobs.{AreThreads, IsThread};
 ghost use Rattle.trace_service.specs.Whole.{IsCourseIfOk, IsServed};
 ghost use Rattle.trace_service.specs.declared.service.ServiceFault.TheVariants as faults;
@@ -82,7 +81,7 @@ impl From<io::Error> for ServiceFault {
 
 /// Of a hub's faults only the want of memory comes.
 impl From<HubFault> for ServiceFault {
-    ghost from_gives = { λ fault given. fault ≡ hub_faults.OutOfMemory → given ≡ faults.OutOfMemory };
+    ghost from_gives = { λ fault given. given ≡ of_hub fault };
 
     fn from(fault: HubFault) -> ServiceFault {
         match fault {

@@ -149,6 +149,11 @@ impl<'h, J: Naming, R: Wait + Clock> Shared<'h, J, R> {
         ensures admin { IfOk result (λ shared. is_some shared.admin ≡ is_some start.now.admin) }
         ensures port { IfOk result (λ shared. option_map (λ admin. admin.port) shared.admin
             ≡ start.now.admin) }
+        ensures limits { IfOk result (λ shared. shared.limits ≡ limits) }
+        ensures patience { IfOk result (λ shared. shared.entrance.patience ≡ limits.patience) }
+        ensures threads { IfOk result (λ shared. shared.threads ≡ threads) }
+        ensures verbose { IfOk result (λ shared. shared.is_verbose
+            ≡ start.now.options.verbose) }
     {
         let since = Instant::now(start.rt)?;
         Ok(Shared {

@@ -29,7 +29,7 @@ returns-clause-course g c =
     let P : CallerState → Type 0 = λ x. x ≡ g.J.Naming.fresh in
     let new : c.in-Some.own ≡ g.J.Naming.fresh =
     (All-pop P c.args.callers.items c.pop.new.self.items (Some c.in-Some.own) c.in-Some.ensures.items c.requires.new).1 in
-    course_from (is_some c.listener_of.result) (is_some c.args.start.now.admin) g.D.Documents.reads c.all_work-ended.result g.J.SettingsNaming.first (present_in c.args.roster) c.new.result (length c.of_thread.result.hub.now)
+    course_from (is_some c.listener_of.result) (is_some c.args.start.now.admin) g.D.Documents.reads c.all_work-ended.result g.J.SettingsNaming.first (present_in c.args.roster) c.new.result c.all_work-ended.new.control.registrar (length c.of_thread.result.hub.now)
     (length g.J.Naming.slots) (g.I.Read.remaining c.args.console.now.input) (g.O.Write.contents c.args.console.now.output)
     (g.O.Write.contents c.all_work-ended.new.console.output) c.of_thread.result.caller g.J.Naming.fresh
     c.all_work-ended.new.control.context.caller _ _ _ (c.listener_of.ensures ∙ c.in_ok-shared.ensures.admin) (ap length (c.of_thread.ensures.hub ∙ c.in_ok-shared.ensures.hub ∙ c.requires.hub))

@@ -6,4 +6,5 @@ invariant-looks g l = record {
   caller : l.self.context.caller ≡ l.fn.self.context.caller;
   hub : l.self.context.hub ≡ l.fn.self.context.hub;
   last : l.self.beat.last ≡ l.fn.self.beat.last;
+  changes : l.self.registrar ≡ l.fn.self.registrar;
 }

@@ -5,7 +5,7 @@ use Rattle.trace_service.proofs.Present.{number, drained_more}
 use Rattle.trace_service.proofs.control.Control.drain_all.Goals as goal
 
 pub loop-tenant-init : goal.loop-tenant-init
-loop-tenant-init g c = record { hub = refl; drained = no_drain }
+loop-tenant-init g c = record { hub = refl; changes = refl; drained = no_drain }
 
 pub loop-tenant-preserved : goal.loop-tenant-preserved
 loop-tenant-preserved g c =
@@ -13,6 +13,7 @@ loop-tenant-preserved g c =
     let made = c.make.ensures in
     record {
       hub = made.hub ∙ before.hub;
+      changes = made.changes ∙ before.changes;
       drained = drained_more _ _ _ c.args.tenants.now c.loop-tenant.tenant-index c.tenant-item.result _ _ c.make.result _ _ c.loop-tenant-test.true
           c.tenant-item.is before.drained (rw before.hub at made.made);
     }

@@ -12,6 +12,7 @@ loop-tenant-preserved g c =
       caller = empty.same ∙ before.caller;
       hub = empty.hub ∙ before.hub;
       last = before.last;
+      changes = before.changes;
       empty = empty_more _ _ c.args.tenants.now c.loop-tenant.tenant-index c.tenant-item.result c.loop-tenant-test.true c.tenant-item.is before.empty
           (rw (c.if-not-is_empty.false, before.caller, before.hub) at empty.empty);
     }

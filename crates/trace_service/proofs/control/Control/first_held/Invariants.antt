@@ -8,5 +8,6 @@ invariant-loop-tenant g l = record {
   caller : l.self.context.caller ≡ l.fn.self.context.caller;
   hub : l.self.context.hub ≡ l.fn.self.context.hub;
   last : l.self.beat.last ≡ l.fn.self.beat.last;
+  changes : l.self.registrar ≡ l.fn.self.registrar;
   empty : AreEmptyOn l.fn.self.context.caller (length l.fn.self.context.hub.now) (map number (take l.tenant-index l.tenants));
 }
