@@ -20,7 +20,7 @@ use Rattle.trace_collector.specs.declared.engine.ReplayFault.TheVariants as faul
 use Rattle.trace_collector.specs.Session.{Session, begun}
 use Rattle.trace_collector.specs.Script.{BeginsScriptText, ScriptToldSoFar}
 use Rattle.trace_collector.specs.Standing.{StandFor, Answers}
-use Rattle.trace_collector.specs.Replay.{IsReplay, WritesSoFar}
+use Rattle.trace_collector.specs.Replay.{IsReplay, StopsReading, WritesSoFar}
 use Rattle.trace_collector.proofs.Through.{told_through, begins_through, so_far_through}
 
 pub goes_along : (old new : Shards) (session : Session) (command : CommandData) (line : Option (List ℕ)) → StandFor old session → Answers old command line new
@@ -42,7 +42,7 @@ so_far_begins lines shards unread written told =
 pub fault_replays : (text script written : List ℕ) (unread : Option (List ℕ)) (shards : Shards) (settings : SettingsData) (fault : ScriptFault) → settings_of text ≡ Ok settings → StandFor shards (begun settings)
     → Ends Answers (lines_of script) shards unread written (Err fault) → IsReplay text script written (Err (script_fault fault))
 fault_replays text script written unread shards settings (Script line) is along ends =
-    (settings, is, told_through Answers IsAnswered StandFor goes_along (lines_of script) 1 shards (begun settings) written (Some line) along ends)
+    (settings, is, told_through Answers IsAnswered StandFor goes_along (lines_of script) 1 shards (begun settings) written (Some line) along ends.0)
 fault_replays text script written unread shards settings Line is along ends =
     (settings, is, begins_through Answers IsAnswered StandFor goes_along (lines_of script) shards (begun settings) written along ends)
 fault_replays text script written unread shards settings OutOfMemory is along ends = (
@@ -119,3 +119,26 @@ nothing_so_far (Some script) w text =
       appends_nothing w,
       record { done = []; left = lines_of script; rest = script; parted = refl; told = (refl, refl); to_read = refl; one_read = omega arith },
     )
+
+-- settings that aren't read are no fault of the script
+pub unread_stops : (old unread : Option (List ℕ)) (fault : SettingsFault) → IfSome old (λ script. StopsReading script unread (Err (settings_fault fault)))
+unread_stops None unread fault = tt
+unread_stops (Some script) unread settings.NotToml = tt
+unread_stops (Some script) unread (settings.MissingKey key) = tt
+unread_stops (Some script) unread (settings.WrongKind key) = tt
+unread_stops (Some script) unread (settings.OutOfRange key) = tt
+unread_stops (Some script) unread (settings.DoubleTenant name) = tt
+unread_stops (Some script) unread settings.TooMany = tt
+unread_stops (Some script) unread settings.OutOfMemory = tt
+
+pub no_fault_stops : (old : Option (List ℕ)) → IfSome old (λ script. Unit)
+no_fault_stops None = tt
+no_fault_stops (Some script) = tt
+
+pub fault_stops : (old unread w w' : Option (List ℕ)) (shards : Shards) (fault : ScriptFault)
+    → IfSome old (λ script. (written : List ℕ) × Appends w w' written × Ends Answers (lines_of script) shards unread written (Err fault))
+    → IfSome old (λ script. StopsReading script unread (Err (script_fault fault)))
+fault_stops None unread w w' shards fault told = tt
+fault_stops (Some script) unread w w' shards (Script line) told = told.2.1
+fault_stops (Some script) unread w w' shards Line told = tt
+fault_stops (Some script) unread w w' shards OutOfMemory told = tt

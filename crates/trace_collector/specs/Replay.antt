@@ -3,6 +3,8 @@ use Rattle.std.specs.Prelude.{◌≡◌, ℕ, List, [], Option, Some, None, Resu
 use Rattle.std.specs.Io.KnownBytes.{Appends}
 use Rattle.tail_settings.specs.Fault.{FaultData, fault_view}
 use Rattle.tail_settings.specs.Settings.{SettingsData, settings_of}
+use Rattle.replay_script.specs.Line.{lines_of}
+use Rattle.replay_script.specs.Transcript.{ReadTo}
 use Rattle.trace_collector.specs.declared.engine.ReplayFault.{ReplayFault}
 use Rattle.trace_collector.specs.declared.engine.ReplayFault.TheVariants.{Settings, Script, Line, OutOfMemory}
 use Rattle.trace_collector.specs.Script.{ScriptText, BeginsScriptText, ScriptToldSoFar}
@@ -27,3 +29,8 @@ IsReplay text script written (Err OutOfMemory) =
 abbrev pub WritesSoFar : List ℕ → List ℕ → Option (List ℕ) → Option (List ℕ) → Option (List ℕ) → Type 0
 WritesSoFar text script unread before after = (s : SettingsData) → settings_of text ≡ Ok s
     → (written : List ℕ) × Appends before after written × ScriptToldSoFar s script unread written
+
+-- nothing of the script is read behind a faulty line
+abbrev pub StopsReading : List ℕ → Option (List ℕ) → Result Unit ReplayFault → Type 0
+StopsReading script unread (Err (Script line)) = ReadTo line (lines_of script) unread
+StopsReading script unread result = Unit

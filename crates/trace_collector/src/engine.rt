@@ -4,7 +4,7 @@ ghost use Rattle.std.specs.Prelude.{◌≡◌, ℕ, List, IfSome, Err};
 ghost use Rattle.std.specs.Io.KnownBytes.{Appends};
 ghost use Rattle.trace_collector.specs.Alone.{TellsEachAlone};
 ghost use Rattle.trace_collector.specs.Fault.{settings_fault, script_fault};
-ghost use Rattle.trace_collector.specs.Replay.{IsReplay, WritesSoFar};
+ghost use Rattle.trace_collector.specs.Replay.{IsReplay, StopsReading, WritesSoFar};
 ghost use Rattle.trace_collector.specs.declared.engine.ReplayFault.TheVariants as faults;
 
 use crate::shards::Shards;
@@ -56,6 +56,9 @@ pub fn replay<T: Threads + Sync, R: BufRead, W: Write>(
         → IfSome (R.remaining reader.old)
         (λ script. WritesSoFar settings.now script (R.remaining reader.new) (W.contents writer.old)
         (W.contents writer.new)) }
+    // Nothing is read behind a faulty line.
+    ensures to_fault { IfSome (R.remaining reader.old)
+        (λ script. StopsReading script (R.remaining reader.new) result) }
 {
     let settings = load(alloc, settings)?;
     let mut shards = Shards::open(alloc, settings)?;

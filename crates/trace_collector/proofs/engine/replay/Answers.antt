@@ -9,7 +9,7 @@ use Rattle.trace_collector.specs.declared.engine.ReplayFault.TheVariants as faul
 use Rattle.trace_collector.specs.Replay.{IsReplay}
 use Rattle.trace_collector.specs.Alone.{TellsEachAlone}
 use Rattle.trace_collector.proofs.EachTold.{nothing_tells, ran_tells, fault_tells}
-use Rattle.trace_collector.proofs.Replayed.{ran_replays, fault_replays, was_memory, memory_so_far, some_told, unread_replays, nothing_begins, nothing_told, nothing_so_far}
+use Rattle.trace_collector.proofs.Replayed.{ran_replays, fault_replays, was_memory, memory_so_far, some_told, unread_replays, nothing_begins, nothing_told, nothing_so_far, unread_stops, no_fault_stops, fault_stops}
 use Rattle.trace_collector.proofs.Members.{all_present}
 use Rattle.trace_collector.proofs.engine.replay.Goals as goal
 
@@ -101,3 +101,21 @@ returns-clause-each_alone g c =
     (λ (script written : List ℕ). TellsEachAlone text script written (Ok tt)) _ _
     (λ script written ends. ran_tells text script written None shards (settings_view c.in_ok-settings.settings) tt c.in_ok-settings.ensures.on_success along ends)
     c.in_ok-run_script.ensures.output
+
+pub returns-in_err-settings-clause-to_fault : goal.returns-in_err-settings-clause-to_fault
+returns-in_err-settings-clause-to_fault g c =
+    let p = err_from_is_err_and c.from_residual.result c.from_residual.ensures.1 in
+    rw (p.1, p.2) (unread_stops _ _ c.in_err-settings.field-0.0)
+
+pub returns-in_err-shards-clause-to_fault : goal.returns-in_err-shards-clause-to_fault
+returns-in_err-shards-clause-to_fault g c =
+    let p = err_from_is_err_and c.from_residual-in_err-shards.result c.from_residual-in_err-shards.ensures.1 in
+    rw (p.1, p.2) (no_fault_stops _)
+
+pub returns-in_err-run_script-clause-to_fault : goal.returns-in_err-run_script-clause-to_fault
+returns-in_err-run_script-clause-to_fault g c =
+    let p = err_from_is_err_and c.from_residual-in_err-run_script.result c.from_residual-in_err-run_script.ensures.1 in
+    rw (p.1, p.2) (fault_stops _ _ _ _ c.in_ok-shards.shards c.in_err-run_script.field-0.0 c.in_err-run_script.ensures.output)
+
+pub returns-clause-to_fault : goal.returns-clause-to_fault
+returns-clause-to_fault g c = no_fault_stops _
