@@ -19,12 +19,14 @@ third_faulty = codes "turn 0 5" ∷ codes "turn 0 6" ∷ codes "turn 0" ∷ code
 abbrev pub two_answers : List ℕ
 two_answers = codes "idle 0\nidle 1\n"
 
--- what these lines are told is that text and the fault 3, and nothing else; a line is not told less than its answer
+-- what these lines are told is that text and the fault 3, and nothing else, and the fourth line is left to read; a line
+-- is not told less than its answer
 pub record ThirdFaulty : Type 0 where
   pub told : Told Counts third_faulty 1 0 two_answers (Some 3)
   pub alone : (text : List ℕ) (fault : Option ℕ) → Told Counts third_faulty 1 0 text fault
       → (text ≡ two_answers) × (fault ≡ Some 3)
-  pub ends : Ends Counts third_faulty 0 None two_answers (Err (Script 3))
+  pub ends : Ends Counts third_faulty 0 (Some (codes "turn 0 7\n")) two_answers (Err (Script 3))
+  pub not_read_on : Ends Counts third_faulty 0 (Some []) two_answers (Err (Script 3)) → ⊥
   pub not_all_of_it : Told Counts (codes "turn 0 5" ∷ []) 1 0 [] None → ⊥
 
 -- `idle 0`, a line feed and `id` are a beginning of two turns' answers; `idle 1` is none

@@ -1,11 +1,12 @@
-use Rattle.std.proofs.Common.{◌≡◌, ◌+◌, ℕ, List, [], ◌∷◌, ◌++◌, slice_index, Option, Some, None, refl, sym, ap, subst, ◌∙◌, arith}
+use Rattle.std.proofs.Common.{◌≡◌, ◌+◌, ℕ, List, [], ◌∷◌, ◌++◌, slice_index, length, Option, Some, None, refl, sym, ap, subst, ◌∙◌, arith}
+use Rattle.std.proofs.lemmas.List.{length-append}
 use Rattle.std.specs.Prelude.{codes}
 use Rattle.std.specs.Fmt.{digits}
 use Rattle.replay_script.specs.Word.{number_of}
 use Rattle.replay_script.specs.Command.{turn_of, command_from, command_of}
-use Rattle.replay_script.specs.Line.{kind_of}
+use Rattle.replay_script.specs.Line.{kind_of, lines_of}
 use Rattle.replay_script.specs.Answer.{idle_text}
-use Rattle.replay_script.specs.Transcript.{Told, Goes, Answered, BeginsTold}
+use Rattle.replay_script.specs.Transcript.{Told, Goes, Answered, BeginsTold, ReadTo}
 use Rattle.collector_tests.specs.ScriptExamples.{Counts, two_answers, third_faulty}
 use Rattle.collector_tests.proofs.definitions.answers_of_scripts.Goals as goal
 
@@ -34,8 +35,30 @@ nothing_more h =
     let same : 0 ≡ 105 = ap (λ l. slice_index l 0) first.1 in
     omega (arith, same)
 
+fourth_left : ReadTo 3 third_faulty (Some (codes "turn 0 7\n"))
+fourth_left =
+    record {
+      done = codes "turn 0 5" ∷ codes "turn 0 6" ∷ codes "turn 0" ∷ [];
+      rest = codes "turn 0 7\n";
+      parted = refl;
+      counted = refl;
+      to_read = refl;
+    }
+
+nothing_left : (rest : List ℕ) → Some [] ≡ Some rest → lines_of rest ≡ []
+nothing_left [] is = refl
+nothing_left (byte ∷ rest) is = absurd (cc)
+
+not_behind : ReadTo 3 third_faulty (Some []) → ⊥
+not_behind read =
+    let lines : 4 ≡ length read.done + length (lines_of read.rest) = ap length read.parted ∙ length-append read.done (lines_of read.rest) in
+    let none : length (lines_of read.rest) ≡ 0 = ap length (nothing_left read.rest read.to_read) in
+    let counted = read.counted in
+    omega (arith, lines, none, counted)
+
 pub returns-clause-third_faulty : goal.returns-clause-third_faulty
-returns-clause-third_faulty c = record { told = third_told; alone = third_alone; ends = third_told; not_all_of_it = nothing_more }
+returns-clause-third_faulty c =
+    record { told = third_told; alone = third_alone; ends = (third_told, fourth_left); not_read_on = λ ends. not_behind ends.1; not_all_of_it = nothing_more }
 
 abbrev first_of_all : List (List ℕ) → List ℕ
 first_of_all [] = []
