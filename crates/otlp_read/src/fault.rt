@@ -8,7 +8,7 @@ use pb_wire::WireFault;
 use std::alloc::{AllocError, AllocFailed};
 use thiserror::Error;
 
-/// What is wrong with a body, or want of memory. Each fault of a body has a number, which reports and logs carry.
+/// What is wrong with a body, or want of memory. Each fault of a body has a number.
 #[derive(Clone, Copy, Debug, PartialEq, Eq, Error)]
 pub enum ReadFault {
     /// The body, or a known message in it, ends inside a tag, a length or a value.

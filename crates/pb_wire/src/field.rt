@@ -30,7 +30,7 @@ pub struct Field<'a> {
     pub value: Value<'a>,
 }
 
-/// Why no field begins here. Each fault has a number, which reports and logs carry.
+/// Why no field begins here. Each fault has a number.
 #[derive(Clone, Copy, Debug, PartialEq, Eq, Error)]
 pub enum WireFault {
     /// The text ends inside a tag, a length or a value.

@@ -24,7 +24,7 @@ pub record TenantData : Type 0 where
   pub section : SectionData
 
 -- what holds for all tenants, the tenants in the order of their numbers, the number that the next one gets, and how
--- many bytes its queue holds
+-- many bytes its queue may hold
 pub record SettingsData : Type 0 where
   pub global : GlobalData
   pub tenants : List TenantData

@@ -12,7 +12,7 @@ use toml::Table;
 pub struct RetryOnFailure {
     /// The first interval between two attempts, in milliseconds, 1 to 86,400,000.
     pub initial_interval: u64,
-    /// The longest interval, in milliseconds, 1 to 86,400,000.
+    /// The longest interval after the first, in milliseconds, 1 to 86,400,000.
     pub max_interval: u64,
     /// For how long a batch is tried, in milliseconds, 0 to 2^40. With 0 there is no end.
     pub max_elapsed_time: u64,
