@@ -73,7 +73,7 @@ impl SharedBytes {
     }
 
     /// The same text in memory of its own, so that no block stays for it. No digest is made.
-    pub(crate) fn copied(&self, alloc: Global) -> Result<SharedBytes, AllocError>
+    pub fn copied(&self, alloc: Global) -> Result<SharedBytes, AllocError>
         ensures { IfOk result (λ text. text ≡ self.now) }
     {
         let bytes = TextSlice::copy_from_slice(alloc, self.text.bytes.as_slice())?;
