@@ -2,6 +2,7 @@
 
 ghost use Rattle.std.specs.Prelude.{◌≡◌, length, map, OnOk, IfNone, true};
 ghost use Rattle.std.specs.Bool.{OnTrue};
+ghost use Rattle.machine_hub.specs.Hub.{slots_of};
 ghost use Rattle.tenant_registry.specs.Roster.{entry_of, present_in};
 ghost use Rattle.trace_service.specs.Control.{Answers, ReadsCommands, Reports, ReportsNamed};
 ghost use Rattle.trace_service.specs.Commands.{AreDrained, AreEmptyOn, AreReported, IsMade, AsksNothing, step_of};
@@ -19,7 +20,7 @@ use service_runtime::{
     Documents, Line, Observer, ServiceBeat, Signals, Stage, Teller, all_arrive, next_line,
     wake_at_last, write_text,
 };
-use shared_hub::SharedHub;
+use shared_hub::{Caller, SharedHub};
 use std::alloc::{AllocError, Global};
 use std::io::{BufRead, Write};
 use std::mem;
@@ -50,6 +51,14 @@ where
     R: Net<Listener = TcpListener, Stream = TcpStream> + Wait + Clock,
     D: Documents,
 {
+    /// Its caller at the shards, once the work is done.
+    pub fn into_caller(self) -> Caller
+        ensures same_hub { slots_of result ≡ J.slots }
+        ensures caller { result ≡ self.entry.context.caller }
+    {
+        self.context.into_caller()
+    }
+
     /// Answers the lines of the input, to its end.
     fn read_commands<I: BufRead, O: Write, L: Observer>(
         &mut self,

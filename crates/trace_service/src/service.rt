@@ -316,6 +316,7 @@ where
     let Some(own) = callers.pop() else {
         unreachable!()
     };
+    let mut workers = assign_threads::<J, R>(&shared, callers, seats)?;
     let mut control = Control {
         rt: shared.rt,
         alloc: shared.alloc,
@@ -327,9 +328,8 @@ where
         context: WorkerContext::of_thread(&shared, own, 0),
         beat: shared.beat.of_chores(),
     };
-    let mut workers = assign_threads::<J, R>(&shared, callers, seats)?;
     let ended = all_work(&shared, workers.as_mut_slice(), &mut control, console);
-    let own = control.context.into_caller();
+    let own = control.into_caller();
     let (callers, seats) = collect_callers(all_callers, all_seats, workers, own)?;
     Ok((callers, seats, ended))
 }
