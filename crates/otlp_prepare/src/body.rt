@@ -18,6 +18,7 @@ ghost use Rattle.otlp_prepare.specs.declared.refusal.Refusal.TheVariants as refu
 use crate::body_spans::found_in;
 use crate::notes::noted_in;
 use crate::prepared::Prepared;
+use crate::recent::RecentTexts;
 use crate::refusal::Refusal;
 use bytes::Bytes;
 use otlp_parts::{BodyParts, read_parts};
@@ -57,6 +58,7 @@ fn read_body(alloc: Global, body: Bytes) -> Result<BodyParts, ReadFault>
 fn prepare_parts<R: Threads + Sync>(
     rt: &R,
     alloc: Global,
+    recent: &RecentTexts,
     tenant: u32,
     section: &Section,
     body: BodyParts,
@@ -70,7 +72,7 @@ fn prepare_parts<R: Threads + Sync>(
 {
     let policies = TenantPolicies::of(section.tail_sampling.policies.as_slice());
     let invalid = body.invalid;
-    let found = found_in(alloc, &policies, body)?;
+    let found = found_in(alloc, &policies, recent, body)?;
     let spans = noted_in(rt, alloc, &policies, found.parts, parts)?;
     let shared = section.tail_sampling.policies.clone()?;
     read_spans_are_viewed();
@@ -106,7 +108,36 @@ pub fn prepare<R: Threads + Sync>(
     ensures bad { (fault : ReadFault) → IfErr result
         (λ refused. refused ≡ refusal.Bad fault → IsFault body fault) }
 {
+    let none = RecentTexts::new();
     let read = read_body(alloc, body)?;
-    let prepared = prepare_parts(rt, alloc, tenant, section, read, parts)?;
+    let prepared = prepare_parts(rt, alloc, &none, tenant, section, read, parts)?;
+    Ok(prepared)
+}
+
+/// The same for who prepares one body after another: no digest is made of a text that the body before had at its first
+/// spans too. What is prepared doesn't depend on what is remembered of that, also where it was another tenant's: a text
+/// is shared only where it has the same bytes, so nothing is told of it.
+pub fn prepare_next<R: Threads + Sync>(
+    rt: &R,
+    alloc: Global,
+    recent: &mut RecentTexts,
+    tenant: u32,
+    section: &Section,
+    body: Bytes,
+    parts: u32,
+) -> Result<Prepared, Refusal>
+    requires { (0 < parts) × (parts ≤ 16) }
+    ensures value { IfOk result (λ prepared. IsPrepared tenant (section_view section.now) body
+        prepared) }
+    ensures only { (v : RequestData) → IsValue body v →
+        MatchResult result (λ prepared. prepared ≡
+        prepared_of tenant (section_view section.now) v)
+        (λ refused. refused ≡ refusal.OutOfMemory) }
+    ensures bad { (fault : ReadFault) → IfErr result
+        (λ refused. refused ≡ refusal.Bad fault → IsFault body fault) }
+{
+    let read = read_body(alloc, body)?;
+    let prepared = prepare_parts(rt, alloc, recent, tenant, section, read, parts)?;
+    recent.remember(alloc, prepared.parts().0.first());
     Ok(prepared)
 }

@@ -9,6 +9,7 @@ ghost use Rattle.otlp_prepare.specs.Arrivals.{origin_view, AreGrouped};
 ghost use Rattle.otlp_prepare.specs.BodySpans.{IsValidRead, IsScopeRead, IsResourceRead, IsGroupRead, AreRead, IsAround, part_with, AreFound, Adds, part_arrivals, arrivals_in_resource, arrivals_in_body, AddsAround, arrivals_around, arrivals_around_all, KeepsGroup, KeepsGrouped};
 
 use crate::noted::SpanOrigin;
+use crate::recent::RecentTexts;
 use crate::reversed::first_of;
 use crate::unnoted::UnnotedSpan;
 use otlp_parts::{BodyParts, PartText, ResourceParts, ScopeList, ScopeParts, SpanTexts};
@@ -151,9 +152,13 @@ fn has_scope(origin: &SpanOrigin, scope: &TextSlice) -> bool {
     }
 }
 
-/// The latest of the last few origins that has this scope, or else the last one. Where resources have the same scopes
-/// in the same order, it is that of the resource before.
-fn latest_like<'a>(origins: &'a [SpanOrigin], scope: &PartText) -> Option<&'a SpanOrigin> {
+/// The latest of the last few origins that has this scope, or else the last one, and before the first one what is
+/// remembered. Where resources have the same scopes in the same order, it is that of the resource before.
+fn latest_like<'a>(
+    origins: &'a [SpanOrigin],
+    recent: &'a RecentTexts,
+    scope: &PartText,
+) -> Option<&'a SpanOrigin> {
     if let Some(scope) = scope.as_ref() {
         let from = origins.len().saturating_sub(LOOKED_AT);
         for origin in origins[from..].iter().rev() {
@@ -162,7 +167,7 @@ fn latest_like<'a>(origins: &'a [SpanOrigin], scope: &PartText) -> Option<&'a Sp
             }
         }
     }
-    origins.last()
+    origins.last().or(recent.first())
 }
 
 /// One of these texts, whichever is there, or else one that is made once.
@@ -268,6 +273,7 @@ fn add_texts(
 fn add_scope(
     alloc: Global,
     found: &mut BodySpans,
+    recent: &RecentTexts,
     outer: &ResourceOrigin,
     scope: ScopeParts,
 ) -> Result<(), AllocError>
@@ -289,7 +295,7 @@ fn add_scope(
         outer,
         &scope.scope,
         &scope.schema_url,
-        latest_like(found.origins.as_slice(), &scope.scope),
+        latest_like(found.origins.as_slice(), recent, &scope.scope),
     )?;
     let index = found.origins.len();
     found.origins.push(origin)?;
@@ -301,6 +307,7 @@ fn add_scope(
 fn add_scopes(
     alloc: Global,
     found: &mut BodySpans,
+    recent: &RecentTexts,
     outer: &ResourceOrigin,
     scopes: Vec<ScopeParts>,
 ) -> Result<(), AllocError>
@@ -313,7 +320,7 @@ fn add_scopes(
         outer.now.schema_url found.old.origins.items found.new.origins.items) }
 {
     for scope in scopes {
-        add_scope(alloc, found, outer, scope)?;
+        add_scope(alloc, found, recent, outer, scope)?;
     }
     Ok(())
 }
@@ -323,6 +330,7 @@ fn add_resource(
     alloc: Global,
     policies: &TenantPolicies<'_>,
     found: &mut BodySpans,
+    recent: &RecentTexts,
     group: ResourceParts,
 ) -> Result<(), AllocError>
     requires read { IsGroupRead (resource_parts_view group) }
@@ -341,11 +349,11 @@ fn add_resource(
     } = group;
     let bits = resource_told(policies, &resource)?;
     let first = next_index(found.origins.as_slice())?;
-    let last = found.origins.last();
+    let last = found.origins.last().or(recent.first());
     let outer = outer_of(alloc, first, &resource, &schema_url, bits, last)?;
     match scopes {
-        ScopeList::One(scope) => add_scope(alloc, found, &outer, scope),
-        ScopeList::More(scopes) => add_scopes(alloc, found, &outer, scopes),
+        ScopeList::One(scope) => add_scope(alloc, found, recent, &outer, scope),
+        ScopeList::More(scopes) => add_scopes(alloc, found, recent, &outer, scopes),
     }
 }
 
@@ -354,6 +362,7 @@ fn add_resources(
     alloc: Global,
     policies: &TenantPolicies<'_>,
     found: &mut BodySpans,
+    recent: &RecentTexts,
     groups: Vec<ResourceParts>,
 ) -> Result<(), AllocError>
     requires read { AllByRecursion IsGroupRead (map resource_parts_view groups.items) }
@@ -366,17 +375,19 @@ fn add_resources(
         found.new.origins.items) }
 {
     for group in groups {
-        add_resource(alloc, policies, found, group)?;
+        add_resource(alloc, policies, found, recent, group)?;
     }
     Ok(())
 }
 
 /// The spans of a body, in its order, each with what its resource tells the policies. Of many resource spans so many
-/// are taken at a time that what was read takes less memory as what is found takes more.
+/// are taken at a time that what was read takes less memory as what is found takes more. Texts of the first that are
+/// remembered are shared.
 #[tactic(auto, using(crate::proofs::Gathered::all_whole))]
 pub fn found_in(
     alloc: Global,
     policies: &TenantPolicies<'_>,
+    recent: &RecentTexts,
     body: BodyParts,
 ) -> Result<BodySpans, AllocError>
     requires { AreRead (body_parts_view body) }
@@ -398,7 +409,7 @@ pub fn found_in(
     left.reverse();
     'pieces: while !left.is_empty() {
         let now = first_of(&mut left)?;
-        add_resources(alloc, policies, &mut found, now)?;
+        add_resources(alloc, policies, &mut found, recent, now)?;
     }
     Ok(found)
 }

@@ -3,7 +3,8 @@
 //! [`prepare`] reads a body by its parts (`otlp_parts`) and makes the note of each of its valid spans for the policies
 //! of the tenant's section (`tail_policy`), in several threads (`tail_notes`). A resource is looked through once for
 //! all of its spans, and so is its digest made. What it gives is exactly the section's policies and the body's value,
-//! with one note a valid span; a body is bad exactly where it has no value.
+//! with one note a valid span; a body is bad exactly where it has no value. [`prepare_next`] does the same for one body
+//! after another, whose [`RecentTexts`] are remembered.
 //!
 //! A [`Prepared`] keeps a span as a [`NotedSpan`], its own text with the index of an [`SpanOrigin`]: the texts of its
 //! resource, its scope and their schemas, each with its digest (`text_pool`), once for all spans of one scope of one
@@ -19,11 +20,13 @@ mod body_spans;
 mod noted;
 mod notes;
 mod prepared;
+mod recent;
 mod refusal;
 mod reversed;
 mod unnoted;
 
-pub use body::prepare;
+pub use body::{prepare, prepare_next};
 pub use noted::{NotedSpan, SpanOrigin};
 pub use prepared::{Prepared, equal_bodies_are_the_same};
+pub use recent::RecentTexts;
 pub use refusal::Refusal;

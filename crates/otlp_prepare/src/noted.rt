@@ -4,7 +4,7 @@ ghost use Rattle.std.specs.Prelude.{◌≡◌, IfOk, option_copied};
 ghost use Rattle.span_pool.specs.Stored.{bytes_of, same_bytes, same_text};
 ghost use Rattle.otlp_prepare.specs.Origin.{text_if};
 
-use std::alloc::AllocError;
+use std::alloc::{AllocError, Global};
 use std::marker::Model;
 use tail_policy::TraceNote;
 use text_pool::SharedBytes;
@@ -62,6 +62,22 @@ fn text_if(there: bool, text: &SharedBytes) -> Option<&SharedBytes>
     if there { Some(text) } else { None }
 }
 
+/// A copy of this text where it is there, or another one in its place, where it isn't.
+fn copy_or(
+    alloc: Global,
+    there: bool,
+    text: &SharedBytes,
+    other: &SharedBytes,
+) -> Result<SharedBytes, AllocError>
+    ensures { IfOk result (λ copy. text_if there copy ≡ text_if there text.now) }
+{
+    if there {
+        text.copied(alloc)
+    } else {
+        other.shared()
+    }
+}
+
 impl SpanOrigin {
     /// These texts, as far as they are there, with the index of the first origin of the same resource spans. Another
     /// one stands in the place of those that are missing.
@@ -115,6 +131,41 @@ impl SpanOrigin {
             scope_schema_url,
             ..*self
         })
+    }
+
+    /// The same texts in memory of their own, so that no body's block stays for them. No digest is made.
+    pub(crate) fn copied(&self, alloc: Global) -> Result<SpanOrigin, AllocError>
+        ensures { IfOk result (λ origin. origin ≡ self.now) }
+    {
+        let resource = self.resource.copied(alloc)?;
+        let resource_schema_url = copy_or(
+            alloc,
+            self.has_resource_schema_url,
+            &self.resource_schema_url,
+            &resource,
+        )?;
+        let scope = copy_or(alloc, self.has_scope, &self.scope, &resource)?;
+        let scope_schema_url = copy_or(
+            alloc,
+            self.has_scope_schema_url,
+            &self.scope_schema_url,
+            &resource,
+        )?;
+        Ok(SpanOrigin {
+            resource,
+            resource_schema_url,
+            scope,
+            scope_schema_url,
+            ..*self
+        })
+    }
+
+    /// Whether none of its texts is longer than so many bytes.
+    pub(crate) fn is_within(&self, bytes: usize) -> bool {
+        self.resource.bytes().len() <= bytes
+            && self.resource_schema_url.bytes().len() <= bytes
+            && self.scope.bytes().len() <= bytes
+            && self.scope_schema_url.bytes().len() <= bytes
     }
 
     /// Which of the body's origins is the first one of the same resource spans. Those of one resource spans have the

@@ -2,7 +2,9 @@
 
 use crate::sections::{FIRST, THREE, section_of};
 use bytes::Bytes;
-use otlp_prepare::{NotedSpan, Prepared, SpanOrigin, equal_bodies_are_the_same, prepare};
+use otlp_prepare::{
+    NotedSpan, Prepared, RecentTexts, SpanOrigin, equal_bodies_are_the_same, prepare, prepare_next,
+};
 use std::alloc::Global;
 use std::mem::size_of;
 use std::process::Abort;
@@ -30,6 +32,12 @@ const OTHERS: &str = "\
 121c0a100000000000000000000000000000000112080000000000000001\n\
 0a240a001220121c0a1000000000000000000000000000000001120800000000000000011200";
 
+/// The bytes that these digits spell.
+fn body_of(rt: &impl Abort, alloc: Global, digits: &str) -> Bytes {
+    let body = hex::decode(alloc, digits).expect(rt, "hexadecimal digits");
+    Bytes::from_vec(body).expect(rt, "memory")
+}
+
 /// The body that these digits spell, prepared for a tenant.
 fn ready<R: Threads + Abort + Sync>(
     rt: &R,
@@ -38,8 +46,7 @@ fn ready<R: Threads + Abort + Sync>(
     section: &Section,
     digits: &str,
 ) -> Prepared {
-    let body = hex::decode(alloc, digits).expect(rt, "hexadecimal digits");
-    let body = Bytes::from_vec(body).expect(rt, "memory");
+    let body = body_of(rt, alloc, digits);
     prepare(rt, alloc, tenant, section, body, 1).expect(rt, "a good body")
 }
 
@@ -69,6 +76,41 @@ fn bodies_are_equal_by_their_value(rt: HostRuntime) {
     assert!(rt; is_as_one(&rt, rt.alloc(), &section, ONE));
     assert!(rt; is_as_one(&rt, rt.alloc(), &section, SAME));
     assert_others(&rt, rt.alloc(), &section);
+}
+
+/// Whether a body is prepared behind others as it is alone.
+fn is_as_alone<R: Threads + Abort + Sync>(
+    rt: &R,
+    alloc: Global,
+    recent: &mut RecentTexts,
+    tenant: u32,
+    section: &Section,
+    digits: &str,
+) -> bool {
+    let body = body_of(rt, alloc, digits);
+    let next = prepare_next(rt, alloc, recent, tenant, section, body, 1).expect(rt, "a good body");
+    next == ready(rt, alloc, tenant, section, digits)
+}
+
+/// Each body is prepared as alone, behind others, and again for another tenant.
+fn assert_as_alone<R: Threads + Abort + Sync>(rt: &R, alloc: Global, section: &Section) {
+    let mut recent = RecentTexts::new();
+    for line in OTHERS.lines() {
+        assert!(rt;
+            is_as_alone(rt, alloc, &mut recent, 1, section, line),
+            "{line}"
+        );
+        assert!(rt;
+            is_as_alone(rt, alloc, &mut recent, 2, section, line),
+            "{line}"
+        );
+    }
+}
+
+#[test]
+fn bodies_are_prepared_one_after_another_as_alone(rt: HostRuntime) {
+    let section = section_of(&rt, rt.alloc(), THREE);
+    assert_as_alone(&rt, rt.alloc(), &section);
 }
 
 /// Whether a body is told from the same one for another tenant and for fewer policies, of which it has the first.

@@ -6,6 +6,7 @@ ghost use Rattle.machine_hub.specs.Hub.{slots_of};
 use bytes::Bytes;
 use decision_cache::HashKeys;
 use http_edge::Reply;
+use otlp_prepare::RecentTexts;
 use service_runtime::Gates;
 use shared_hub::{Caller, HubFault, SharedHub};
 use std::alloc::{AllocError, Global};
@@ -68,7 +69,21 @@ fn told<R: Threads + Wait + Sync>(
     };
     let body = Bytes::copy_from_slice(alloc, body)?;
     let gates = Gates::new(alloc)?;
-    Ok(Some(post_body(rt, rt, alloc, hub, me, 0, tenant, section, body, 2, &gates)))
+    let mut recent = RecentTexts::new();
+    Ok(Some(post_body(
+        rt,
+        rt,
+        alloc,
+        hub,
+        me,
+        &mut recent,
+        0,
+        tenant,
+        section,
+        body,
+        2,
+        &gates,
+    )))
 }
 
 /// Whether such a body is told this.

@@ -12,6 +12,7 @@ use bytes::Bytes;
 use export_edge::{AnswerRefused, AnswerSink, Beat, JobSource, TurnResult};
 use http_edge::{Handler, HttpMessage, RefusalForm, Reply};
 use job_lane::Job;
+use otlp_prepare::RecentTexts;
 use send_retry::Answer;
 use service_runtime::{BodyClaim, ServiceBeat, Signals, Teller};
 use shared_hub::{Caller, HubFault, SharedHub};
@@ -35,6 +36,8 @@ pub(crate) struct WorkerContext<'h, J: Naming, R> {
     parts: u32,
     pub hub: &'h SharedHub,
     caller: Caller,
+    // Of the body before, as a receiver: a sender's bodies come over one connection, one after another.
+    recent: RecentTexts,
     /// Whose turns it makes.
     pub shard: usize,
     pub beat: ServiceBeat<'h, R>,
@@ -79,6 +82,7 @@ impl<'h, J: Naming, R: Wait + Clock> WorkerContext<'h, J, R> {
             parts: shared.limits.parts,
             hub: shared.hub,
             caller,
+            recent: RecentTexts::new(),
             shard,
             beat: shared.beat.with_short_pauses(),
             teller: Teller::new(shared.rt, signals),
@@ -365,6 +369,7 @@ impl<'h, J: Naming, R: Wait + Clock> WorkerContext<'h, J, R> {
                     self.alloc,
                     self.hub,
                     &mut self.caller,
+                    &mut self.recent,
                     now,
                     tenant,
                     section,

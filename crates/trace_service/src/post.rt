@@ -9,7 +9,7 @@ ghost use Rattle.trace_service.specs.Post.{IsPosted, Tells};
 use bytes::Bytes;
 use http_edge::{Allow, MediaType, Reply};
 use otlp_front::RouteRefusal;
-use otlp_prepare::{Refusal, prepare};
+use otlp_prepare::{RecentTexts, Refusal, prepare_next};
 use service_runtime::Gates;
 use shared_hub::{Caller, HubFault, SharedHub};
 use std::alloc::Global;
@@ -22,6 +22,7 @@ use tenant_shard::{Outcome, Step};
 /// Posts a body that came at the moment `now`, in milliseconds, to the shard of the tenant with this number and
 /// section: a body without a value is no step, and any other is one. Its notes are made before, in at most `parts`
 /// threads, this one among them, which `threads` starts; then one of the tenant's gates is passed, for the step alone.
+/// No digest is made of a text that the body before had too, by what is remembered of that.
 /// A 503 without a body says that memory was refused; whether the step was made then is for the caller to know.
 pub fn post_body<T: Threads + Sync, R: Wait>(
     threads: &T,
@@ -29,6 +30,7 @@ pub fn post_body<T: Threads + Sync, R: Wait>(
     alloc: Global,
     hub: &SharedHub,
     me: &mut Caller,
+    recent: &mut RecentTexts,
     now: u64,
     tenant: u32,
     section: &Section,
@@ -42,7 +44,7 @@ pub fn post_body<T: Threads + Sync, R: Wait>(
     ensures posted { IsPosted me.old me.new (length hub.now) now tenant (section_view section.now)
         body (response_of result) }
 {
-    match prepare(threads, alloc, tenant, section, body, parts) {
+    match prepare_next(threads, alloc, recent, tenant, section, body, parts) {
         Ok(prepared) => {
             let shard = tenant as usize % hub.shards();
             let _gate = gates.pass(rt, tenant);
