@@ -408,7 +408,7 @@ pub fn found_in(
     let mut left = body.resources;
     left.reverse();
     'pieces: while !left.is_empty() {
-        let now = first_of(&mut left)?;
+        let now = first_of(alloc, &mut left)?;
         add_resources(alloc, policies, &mut found, recent, now)?;
     }
     Ok(found)

@@ -12,9 +12,9 @@ use span_view::SpanRef;
 use std::alloc::{AllocError, Global};
 use std::thread::Threads;
 use tail_notes::note_all;
-use tail_policy::{TenantPolicies, TraceNote};
+use tail_policy::{Policy, TenantPolicies, TraceNote};
 
-/// Fewer spans than this are noted by one thread: another one would take longer to start than they take.
+/// Fewer spans than this are noted by the thread that is there: another one would take longer to start than they take.
 const MANY: usize = 512;
 
 /// What each span tells by itself.
@@ -32,7 +32,8 @@ fn own_notes<R: Threads + Sync>(
     parts: &[UnnotedSpan],
     threads: u32,
 ) -> Result<Vec<TraceNote>, AllocError>
-    requires { (0 < threads) × (threads ≤ 16) }
+    requires threads { (0 < threads) × (threads ≤ 16) }
+    requires few { length parts.now ≤ 4096 }
     ensures { IfOk result (λ notes. notes.items ≡ map (own_note policies.now) parts.now) }
 {
     let views = own_views(alloc, parts)?;
@@ -55,12 +56,20 @@ fn with_notes(
         .collect(alloc)
 }
 
-/// In how many threads so many spans are noted, of so many that there may be.
-fn threads_for(spans: usize, threads: u32) -> u32
-    requires { (0 < threads) × (threads ≤ 16) }
-    ensures { (0 < result) × (result ≤ 16) }
+/// Spans with their notes, in order, made in this thread: each whole before the next, so that no list stands between.
+fn noted_here(
+    alloc: Global,
+    policies: &TenantPolicies<'_>,
+    parts: Vec<UnnotedSpan>,
+) -> Result<Vec<NotedSpan>, AllocError>
+    ensures { IfOk result (λ spans. spans.items ≡ map (noted policies.now) parts.items) }
 {
-    if spans < MANY { 1 } else { threads }
+    let mut spans = Vec::with_capacity(alloc, parts.len())?;
+    for part in parts {
+        let own = policies.note(&part.own_view())?;
+        spans.push(part.with_note(own))?;
+    }
+    Ok(spans)
 }
 
 /// Spans with their notes, in order, made in at most `threads` threads. They are few, since the memory of their notes
@@ -76,8 +85,10 @@ fn noted_at_once<R: Threads + Sync>(
     requires few { length parts.items ≤ 4096 }
     ensures { IfOk result (λ spans. spans.items ≡ map (noted policies.now) parts.items) }
 {
-    let busy = threads_for(parts.len(), threads);
-    let own = own_notes(rt, alloc, policies, parts.as_slice(), busy)?;
+    if parts.len() < MANY {
+        return noted_here(alloc, policies, parts);
+    }
+    let own = own_notes(rt, alloc, policies, parts.as_slice(), threads)?;
     with_notes(alloc, parts, own)
 }
 
@@ -102,7 +113,7 @@ pub fn noted_in<R: Threads + Sync>(
     let mut left = parts;
     left.reverse();
     while !left.is_empty() {
-        let now = first_of(&mut left)?;
+        let now = first_of(alloc, &mut left)?;
         let mut more = noted_at_once(rt, alloc, policies, now, threads)?;
         spans.append(&mut more)?;
     }
