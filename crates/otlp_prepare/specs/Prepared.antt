@@ -1,8 +1,8 @@
 -- A body that was read, for a tenant with its section. This project's own rule.
-use Rattle.std.specs.Prelude.{◌≡◌, ◌<◌, ◌^◌, ℕ, true, List, length}
+use Rattle.std.specs.Prelude.{◌≡◌, ◌<◌, ◌^◌, ℕ, true, List, length, Result, IfErr, MatchResult}
 use Rattle.std.specs.List.{AllByRecursion}
 use Rattle.otlp_trace.specs.Data.{RequestData}
-use Rattle.otlp_read.specs.Value.{IsValue}
+use Rattle.otlp_read.specs.Value.{IsValue, IsFault}
 use Rattle.otlp_read.specs.declared.fault.ReadFault.{ReadFault}
 use Rattle.otlp_read.specs.declared.fault.ReadFault.TheVariants as faults
 use Rattle.otlp_parts.specs.Texts.{invalid_in}
@@ -36,6 +36,17 @@ prepared_of tenant section request = record {
 -- the tenant, the section's policies and the spans of the body's value
 abbrev pub IsPrepared : ℕ → SectionData → List ℕ → PreparedData → Type 0
 IsPrepared tenant section body prepared = (v : RequestData) × IsValue body v × (prepared ≡ prepared_of tenant section v)
+
+-- a body with a value is prepared as that, unless memory runs out
+abbrev pub PreparesValue : ℕ → SectionData → List ℕ → Result PreparedData Refusal → Type 0
+PreparesValue tenant section body result = (v : RequestData) → IsValue body v
+    → MatchResult result (λ prepared. prepared ≡ prepared_of tenant section v)
+    (λ refused. refused ≡ refusal.OutOfMemory)
+
+-- the fault of a body that is bad stands in it
+abbrev pub NamesFault : List ℕ → Result PreparedData Refusal → Type 0
+NamesFault body result =
+    (fault : ReadFault) → IfErr result (λ refused. refused ≡ refusal.Bad fault → IsFault body fault)
 
 -- a span is valid, its origin is one of these, with the resource of the others of its resource spans, and its note is
 -- that of the span with its resource for these policies

@@ -1,6 +1,6 @@
 //! Bodies are read for a tenant.
 
-ghost use Rattle.std.specs.Prelude.{◌≡◌, ◌≢◌, ◌<◌, ◌≤◌, ◌^◌, Ok, IfOk, IfErr, MatchResult};
+ghost use Rattle.std.specs.Prelude.{◌≡◌, ◌≢◌, ◌<◌, ◌≤◌, ◌^◌, Ok, IfOk, IfErr};
 ghost use Rattle.std.specs.List.{All};
 ghost use Rattle.otlp_trace.specs.Data.{RequestData};
 ghost use Rattle.otlp_read.specs.Fault.{Gives};
@@ -12,8 +12,7 @@ ghost use Rattle.otlp_parts.specs.Parts.{body_parts_view};
 ghost use Rattle.otlp_parts.specs.Texts.{ArePartsOf, texts_of};
 ghost use Rattle.tail_settings.specs.Section.{section_view};
 ghost use Rattle.otlp_prepare.specs.BodySpans.{AreRead};
-ghost use Rattle.otlp_prepare.specs.Prepared.{IsPrepared, prepared_of};
-ghost use Rattle.otlp_prepare.specs.declared.refusal.Refusal.TheVariants as refusal;
+ghost use Rattle.otlp_prepare.specs.Prepared.{IsPrepared, PreparesValue, NamesFault, prepared_of};
 
 use crate::body_spans::found_in;
 use crate::notes::noted_in;
@@ -37,9 +36,9 @@ fn are_bytes(text: &[u8])
     prove!(text.iter().all(|byte| *byte <= u8::MAX));
 }
 
-/// The parts of a body, whose texts are those of messages that were read. The body becomes one block that they share,
-/// and is let go of where none of them is a slice of it.
-fn read_body(alloc: Global, body: Bytes) -> Result<BodyParts, ReadFault>
+/// The parts of a body, whose texts are those of messages that were read. The body's block is let go of where none of
+/// them is a slice of it.
+fn read_body(alloc: Global, body: TextSlice) -> Result<BodyParts, ReadFault>
     ensures value { IfOk result (λ parts. ArePartsOf body (body_parts_view parts)) }
     ensures read { IfOk result (λ parts. AreRead (body_parts_view parts)) }
     ensures typed { (v : RequestData) → IsValue body v → TypedRequest v }
@@ -50,8 +49,7 @@ fn read_body(alloc: Global, body: Bytes) -> Result<BodyParts, ReadFault>
 {
     are_bytes(body.as_slice());
     values_are_sound();
-    let block = TextSlice::of(alloc, body)?;
-    read_parts(alloc, &block)
+    read_parts(alloc, &body)
 }
 
 /// What is prepared of a body that was read.
@@ -79,6 +77,27 @@ fn prepare_parts<R: Threads + Sync>(
     Ok(Prepared::of(tenant, shared, found.origins, spans, invalid))
 }
 
+/// What is made of a body, of which texts that are remembered are shared.
+fn prepare_by<R: Threads + Sync>(
+    rt: &R,
+    alloc: Global,
+    recent: &RecentTexts,
+    tenant: u32,
+    section: &Section,
+    body: TextSlice,
+    parts: u32,
+) -> Result<Prepared, Refusal>
+    requires { (0 < parts) × (parts ≤ 16) }
+    ensures value { IfOk result (λ prepared. IsPrepared tenant (section_view section.now) body
+        prepared) }
+    ensures only { PreparesValue tenant (section_view section.now) body result }
+    ensures bad { NamesFault body result }
+{
+    let read = read_body(alloc, body)?;
+    let prepared = prepare_parts(rt, alloc, recent, tenant, section, read, parts)?;
+    Ok(prepared)
+}
+
 /// Reads a body, a request in protobuf, for the tenant with this number and section, and makes the notes of its spans
 /// in at most `parts` threads, 1 to 16, this one among them. It waits only for threads that it started. What is
 /// prepared names the tenant and shares the section's policies, which takes no memory; texts of its spans are slices of
@@ -99,19 +118,21 @@ pub fn prepare<R: Threads + Sync>(
         prepared) }
 
     // A body with a value is prepared, unless memory runs out.
-    ensures only { (v : RequestData) → IsValue body v →
-        MatchResult result (λ prepared. prepared ≡
-        prepared_of tenant (section_view section.now) v)
-        (λ refused. refused ≡ refusal.OutOfMemory) }
+    ensures only { PreparesValue tenant (section_view section.now) body result }
 
     // The fault of a body that is bad stands in it.
-    ensures bad { (fault : ReadFault) → IfErr result
-        (λ refused. refused ≡ refusal.Bad fault → IsFault body fault) }
+    ensures bad { NamesFault body result }
 {
-    let none = RecentTexts::new();
-    let read = read_body(alloc, body)?;
-    let prepared = prepare_parts(rt, alloc, &none, tenant, section, read, parts)?;
-    Ok(prepared)
+    let block = TextSlice::of(alloc, body)?;
+    prepare_by(
+        rt,
+        alloc,
+        &RecentTexts::new(),
+        tenant,
+        section,
+        block,
+        parts,
+    )
 }
 
 /// The same for who prepares one body after another: no digest is made of a text that the body before had at its first
@@ -123,21 +144,18 @@ pub fn prepare_next<R: Threads + Sync>(
     recent: &mut RecentTexts,
     tenant: u32,
     section: &Section,
-    body: Bytes,
+    body: TextSlice,
     parts: u32,
 ) -> Result<Prepared, Refusal>
     requires { (0 < parts) × (parts ≤ 16) }
     ensures value { IfOk result (λ prepared. IsPrepared tenant (section_view section.now) body
         prepared) }
-    ensures only { (v : RequestData) → IsValue body v →
-        MatchResult result (λ prepared. prepared ≡
-        prepared_of tenant (section_view section.now) v)
-        (λ refused. refused ≡ refusal.OutOfMemory) }
-    ensures bad { (fault : ReadFault) → IfErr result
-        (λ refused. refused ≡ refusal.Bad fault → IsFault body fault) }
+    ensures only { PreparesValue tenant (section_view section.now) body result }
+    ensures bad { NamesFault body result }
 {
-    let read = read_body(alloc, body)?;
-    let prepared = prepare_parts(rt, alloc, recent, tenant, section, read, parts)?;
-    recent.remember(alloc, prepared.parts().0.first());
-    Ok(prepared)
+    let made = prepare_by(rt, alloc, recent, tenant, section, body, parts);
+    if let Ok(prepared) = &made {
+        recent.remember(alloc, prepared.parts().0.first());
+    }
+    made
 }

@@ -11,6 +11,7 @@ use std::process::Abort;
 use std::sync::ArcSlice;
 use std::thread::Threads;
 use tail_settings::Section;
+use text_slice::TextSlice;
 
 /// One span of a resource without attributes.
 const ONE: &str = "0a220a00121e121c0a100000000000000000000000000000000112080000000000000001";
@@ -32,12 +33,6 @@ const OTHERS: &str = "\
 121c0a100000000000000000000000000000000112080000000000000001\n\
 0a240a001220121c0a1000000000000000000000000000000001120800000000000000011200";
 
-/// The bytes that these digits spell.
-fn body_of(rt: &impl Abort, alloc: Global, digits: &str) -> Bytes {
-    let body = hex::decode(alloc, digits).expect(rt, "hexadecimal digits");
-    Bytes::from_vec(body).expect(rt, "memory")
-}
-
 /// The body that these digits spell, prepared for a tenant.
 fn ready<R: Threads + Abort + Sync>(
     rt: &R,
@@ -46,7 +41,8 @@ fn ready<R: Threads + Abort + Sync>(
     section: &Section,
     digits: &str,
 ) -> Prepared {
-    let body = body_of(rt, alloc, digits);
+    let body = hex::decode(alloc, digits).expect(rt, "hexadecimal digits");
+    let body = Bytes::from_vec(body).expect(rt, "memory");
     prepare(rt, alloc, tenant, section, body, 1).expect(rt, "a good body")
 }
 
@@ -87,7 +83,8 @@ fn is_as_alone<R: Threads + Abort + Sync>(
     section: &Section,
     digits: &str,
 ) -> bool {
-    let body = body_of(rt, alloc, digits);
+    let body = hex::decode(alloc, digits).expect(rt, "hexadecimal digits");
+    let body = TextSlice::from_vec(alloc, body).expect(rt, "memory");
     let next = prepare_next(rt, alloc, recent, tenant, section, body, 1).expect(rt, "a good body");
     next == ready(rt, alloc, tenant, section, digits)
 }

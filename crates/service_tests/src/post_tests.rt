@@ -3,7 +3,6 @@
 ghost use Rattle.std.specs.Prelude.{◌≡◌};
 ghost use Rattle.machine_hub.specs.Hub.{slots_of};
 
-use bytes::Bytes;
 use decision_cache::HashKeys;
 use http_edge::Reply;
 use otlp_prepare::RecentTexts;
@@ -16,6 +15,7 @@ use std::test::Fail;
 use std::thread::Threads;
 use tail_settings::{Settings, load};
 use tenant_shard::{Outcome, Step};
+use text_slice::TextSlice;
 use trace_service::post_body;
 
 /// The tests' own trace ids are no one's choice.
@@ -67,7 +67,7 @@ fn told<R: Threads + Wait + Sync>(
     let Some(section) = settings.section(section_of) else {
         return Ok(None);
     };
-    let body = Bytes::copy_from_slice(alloc, body)?;
+    let body = TextSlice::copy_from_slice(alloc, body)?;
     let gates = Gates::new(alloc)?;
     let mut recent = RecentTexts::new();
     Ok(Some(post_body(

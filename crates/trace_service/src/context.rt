@@ -8,7 +8,6 @@ use crate::lookup::{destination_of, refusal_of};
 use crate::naming::Naming;
 use crate::post::post_body;
 use crate::shared::Shared;
-use bytes::Bytes;
 use export_edge::{AnswerRefused, AnswerSink, Beat, JobSource, TurnResult};
 use http_edge::{Handler, HttpMessage, RefusalForm, Reply};
 use job_lane::Job;
@@ -25,6 +24,7 @@ use tail_settings::Section;
 use tenant_registry::replies::{is_without_memory, refused, without_memory};
 use tenant_registry::{Destination, InForce};
 use tenant_shard::{Outcome, Step, Waiting};
+use text_slice::TextSlice;
 
 /// One thread's place at the shards.
 #[derive(Drop)]
@@ -361,7 +361,7 @@ impl<'h, J: Naming, R: Wait + Clock> WorkerContext<'h, J, R> {
         let signals = self.beat.signals();
         signals.large_bodies().enter(self.rt, tenant, bytes);
         let now = self.beat.now();
-        match admitted(signals, self.hub.shard_of(tenant), now, body) {
+        match admitted(self.alloc, signals, self.hub.shard_of(tenant), now, body) {
             Ok(body) => {
                 let reply = post_body(
                     rt,
@@ -406,18 +406,18 @@ impl<'h, J: Naming, R: Wait + Clock> WorkerContext<'h, J, R> {
 }
 
 /// The body as it may be shared, where a post may come to this shard at this moment.
-fn admitted(signals: &Signals, shard: usize, now: u64, body: Vec<u8>) -> Result<Bytes, AllocError>
-    ensures { IfOk result (λ bytes. bytes ≡ body.items) }
+fn admitted(
+    alloc: Global,
+    signals: &Signals,
+    shard: usize,
+    now: u64,
+    body: Vec<u8>,
+) -> Result<TextSlice, AllocError>
+    ensures { IfOk result (λ text. text ≡ body.items) }
 {
     if signals.is_short(shard, now) {
         return Err(AllocError);
     }
-    bytes_of(body)
-}
-
-/// A body as what may be shared. No byte is copied.
-fn bytes_of(body: Vec<u8>) -> Result<Bytes, AllocError>
-    ensures { IfOk result (λ bytes. bytes ≡ body.items) }
-{
-    Ok(Bytes::from_vec(body)?)
+    // No byte is copied.
+    TextSlice::from_vec(alloc, body)
 }

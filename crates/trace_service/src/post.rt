@@ -6,7 +6,6 @@ ghost use Rattle.machine_hub.specs.Hub.{slots_of};
 ghost use Rattle.tail_settings.specs.Section.{section_view};
 ghost use Rattle.trace_service.specs.Post.{IsPosted, Tells};
 
-use bytes::Bytes;
 use http_edge::{Allow, MediaType, Reply};
 use otlp_front::RouteRefusal;
 use otlp_prepare::{RecentTexts, Refusal, prepare_next};
@@ -18,6 +17,7 @@ use std::thread::Threads;
 use tail_settings::Section;
 use tenant_registry::replies::{bad_protobuf, refused, without_memory};
 use tenant_shard::{Outcome, Step};
+use text_slice::TextSlice;
 
 /// Posts a body that came at the moment `now`, in milliseconds, to the shard of the tenant with this number and
 /// section: a body without a value is no step, and any other is one. Its notes are made before, in at most `parts`
@@ -34,7 +34,7 @@ pub fn post_body<T: Threads + Sync, R: Wait>(
     now: u64,
     tenant: u32,
     section: &Section,
-    body: Bytes,
+    body: TextSlice,
     parts: u32,
     gates: &Gates,
 ) -> Reply

@@ -1,24 +1,15 @@
-use Rattle.std.proofs.Common.{◌≢◌, ◌<◌, ◌^◌, ℕ, List, sym, subst}
-use Rattle.std.specs.Prelude.{IfOk, IfErr}
+use Rattle.std.proofs.Common.{◌≡◌, ◌<◌, ◌^◌, ℕ, List, sym, subst}
 use Rattle.std.specs.List.{All}
 use Rattle.std.proofs.lemmas.Result.{IfOk-weaker}
 use Rattle.otlp_trace.specs.Data.{RequestData}
 use Rattle.otlp_read.specs.Typed.{TypedRequest}
-use Rattle.otlp_read.specs.Value.{IsValue, IsFault}
-use Rattle.otlp_read.specs.declared.fault.ReadFault.TheVariants as faults
+use Rattle.otlp_read.specs.Value.{IsValue}
 use Rattle.otlp_parts.specs.declared.parts.BodyParts.{BodyParts}
 use Rattle.otlp_parts.specs.Parts.{body_parts_view}
 use Rattle.otlp_parts.specs.Texts.{ArePartsOf, BodyTexts}
 use Rattle.otlp_prepare.specs.BodySpans.{AreRead}
 use Rattle.otlp_prepare.proofs.Valued.{body_read}
 use Rattle.otlp_prepare.proofs.body.read_body.Goals as goal
-
-pub returns-in_err-block-clause-typed : goal.returns-in_err-block-clause-typed
-returns-in_err-block-clause-typed c = λ v is.
-    c.values_are_sound.ensures.typed c.args.body v (subst (λ (bs : List ℕ). All (λ b. b < 2 ^ 8) bs) c.as_slice.ensures c.are_bytes.ensures) is
-
-pub returns-in_err-block-clause-nested : goal.returns-in_err-block-clause-nested
-returns-in_err-block-clause-nested c = λ v is. c.values_are_sound.ensures.nested c.args.body v is
 
 pub returns-clause-typed : goal.returns-clause-typed
 returns-clause-typed c = λ v is.
@@ -27,21 +18,10 @@ returns-clause-typed c = λ v is.
 pub returns-clause-nested : goal.returns-clause-nested
 returns-clause-nested c = λ v is. c.values_are_sound.ensures.nested c.args.body v is
 
-pub returns-clause-value : goal.returns-clause-value
-returns-clause-value c =
-    subst (λ (bs : List ℕ). IfOk c.read_parts.result (λ parts. ArePartsOf bs (body_parts_view parts))) c.in_ok-block.ensures c.read_parts.ensures.value
-
-pub returns-clause-only : goal.returns-clause-only
-returns-clause-only c = λ v is. c.read_parts.ensures.only v (subst (λ (bs : List ℕ). IsValue bs v) (sym c.in_ok-block.ensures) is)
-
-pub returns-clause-fault : goal.returns-clause-fault
-returns-clause-fault c =
-    subst (λ (bs : List ℕ). IfErr c.read_parts.result (λ fault. fault ≢ faults.OutOfMemory → IsFault bs fault)) c.in_ok-block.ensures c.read_parts.ensures.fault
-
 pub returns-clause-read : goal.returns-clause-read
 returns-clause-read c =
     let typed : (v : RequestData) → IsValue c.args.body v → TypedRequest v = λ v is.
     c.values_are_sound.ensures.typed c.args.body v (subst (λ (bs : List ℕ). All (λ b. b < 2 ^ 8) bs) c.as_slice.ensures c.are_bytes.ensures) is in
     IfOk-weaker c.read_parts.result (λ (parts : BodyParts). ArePartsOf c.args.body (body_parts_view parts)) (λ (parts : BodyParts). AreRead (body_parts_view parts))
     (λ parts are. subst (λ (b : BodyTexts). AreRead b) (sym are.same) (body_read are.value (typed are.value are.is) (c.values_are_sound.ensures.nested c.args.body are.value are.is)))
-    (subst (λ (bs : List ℕ). IfOk c.read_parts.result (λ parts. ArePartsOf bs (body_parts_view parts))) c.in_ok-block.ensures c.read_parts.ensures.value)
+    c.read_parts.ensures.value

@@ -5,7 +5,7 @@ use Rattle.otlp_parts.specs.Parts.{body_parts_view}
 use Rattle.otlp_parts.specs.Texts.{BodyTexts, texts_of}
 use Rattle.otlp_prepare.specs.Prepared.{refusal_of}
 use Rattle.otlp_prepare.specs.declared.refusal.Refusal.TheVariants as refusal
-use Rattle.otlp_prepare.proofs.body.prepare_next.Goals as goal
+use Rattle.otlp_prepare.proofs.body.prepare_by.Goals as goal
 
 pub returns-in_err-read-clause-only : goal.returns-in_err-read-clause-only
 returns-in_err-read-clause-only g c = λ v is.
