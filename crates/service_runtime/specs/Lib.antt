@@ -8,3 +8,7 @@ pub mod LastAnswers
 pub mod Notice
 pub mod Visit
 pub mod BodyMemory
+pub mod Front
+pub mod ProcText
+pub mod Resident
+pub mod Reply

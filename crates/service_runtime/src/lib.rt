@@ -5,7 +5,8 @@
 //! is short, how much may be under way, and what was counted. [`Teller`] says in these what a thread's calls came to. A
 //! client comes in at an [`Entrance`] and is read through a [`Visit`], one after another ([`receive_all`]). Lines come
 //! from an input ([`next_line`]), which is a desk where there is an admin port ([`AdminDesk`]), and what is written to
-//! the output is written whole, or lost and counted ([`write_text`]).
+//! the output is written whole, or lost and counted ([`write_text`]). A figure that Linux tells of the process is read
+//! out of its text ([`number_behind`]).
 //!
 //! It calls no shard, of which it knows the number alone, and knows nothing of tenants' settings or of what becomes of
 //! a message. It stands on `export_edge` and `job_lane` for beats and jobs, on `http_edge`, `http_line` and `http1` for
@@ -25,6 +26,7 @@ mod course;
 mod desk;
 mod documents;
 mod entrance;
+mod front;
 mod gates;
 mod input;
 mod large_bodies;
@@ -35,6 +37,7 @@ pub mod notices;
 mod output;
 mod pace;
 mod patient;
+mod proc_text;
 mod receiving;
 mod reserve;
 mod rest;
@@ -61,6 +64,7 @@ pub use crate::memory::resident_bytes;
 pub use crate::output::write_text;
 pub use crate::pace::{Paces, ShardPace};
 pub use crate::patient::PatientBackEnd;
+pub use crate::proc_text::number_behind;
 pub use crate::receiving::{Reception, receive_all};
 pub use crate::reserve::Reserve;
 pub use crate::tally::Tally;
