@@ -32,7 +32,7 @@ const LIMITS: &str = "/proc/self/limits";
 #[error("at most {limit}, and {receivers} receivers and {senders} senders need {needed}: raise the limit \
      (`ulimit -n`), or lower receivers or senders")]
 struct Shortage {
-    limit: u32,
+    limit: u64,
     receivers: u32,
     senders: u32,
     needed: u64,
@@ -153,7 +153,7 @@ pub fn has_descriptors(
 }
 
 /// The fault of a limit of open files that is too low. It is told also to who isn't told of other faults.
-fn short_of(limit: u32, threads: ThreadCounts, reason: &mut Reason) -> ProgramFault
+fn short_of(limit: u64, threads: ThreadCounts, reason: &mut Reason) -> ProgramFault
     ensures fault { result ≡ faults.Replay replay_faults.Line }
     ensures told { reason.new.is_told ≡ true }
     ensures line { TellsOf (codes "open files") reason.old reason.new }
