@@ -10,3 +10,4 @@ pub mod Address
 pub mod Doubts
 pub mod Report
 pub mod Law
+pub mod Ranges

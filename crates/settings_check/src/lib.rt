@@ -29,5 +29,5 @@ mod unknown;
 
 pub use address::address_fault;
 pub use document::settings_text;
-pub use law::known_keys_are_those_that_are_read;
+pub use law::{known_keys_are_those_that_are_read, ranges_are_told_as_they_are_read};
 pub use report::{Report, check};
