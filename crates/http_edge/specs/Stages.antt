@@ -1,6 +1,6 @@
 -- What the private functions find at the front of the buffer, and how far they get. The messages are those of RFC 9112,
 -- as Message has them; the stages are this project's own.
-use Rattle.std.specs.Prelude.{◌≡◌, ◌≢◌, ℕ, ◌+◌, ◌<◌, ◌≤◌, ◌++◌, Bool, true, false, not, List, [], map, take, drop, length, Some, None, Option, if◌then◌else◌, ⊤}
+use Rattle.std.specs.Prelude.{◌≡◌, ◌≢◌, ℕ, ◌+◌, ◌<◌, ◌≤◌, ◌++◌, Bool, true, false, not, List, [], take, drop, length, Some, None, Option, if◌then◌else◌, ⊤}
 use Rattle.httparse.specs.Grammar.{RequestHead, HasNoRequest, MayBecomeRequest, print_request}
 use Rattle.httparse.specs.declared.Error.{Error}
 use Rattle.httparse.specs.declared.Error.TheVariants.{TooManyHeaders}
@@ -31,7 +31,6 @@ use Rattle.http_edge.specs.Talk.{RefusesHead, head_lines, Exchange, exchange_tex
 use Rattle.http_edge.specs.Reply.{reply_text, is_for_no_memory}
 use Rattle.http_edge.specs.declared.message.RefusalForm.{RefusalForm}
 use Rattle.http_line.specs.Line.{Moves}
-use Rattle.http_edge.specs.Seen.{header_of}
 
 -- the status that a parser's error is refused with
 abbrev pub error_status : Error → ℕ
@@ -62,7 +61,7 @@ message_with h body = record { head = h; body = body }
 pub record IsHeadOf (head : Head) (h : RequestHead) : Type 0 where
   pub method : head.message.method ≡ h.method
   pub target : head.message.target.items ≡ h.target
-  pub headers : map header_of head.message.headers.items ≡ headers_of h
+  pub headers : head.message.headers ≡ headers_of h
   pub expects : head.expects ≡ expects h
   pub closes : head.closes ≡ closes h
   pub bodiless : head.bodiless ≡ is_bodiless h

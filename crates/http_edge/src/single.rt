@@ -1,10 +1,10 @@
 //! A field that is to stand once.
-ghost use Rattle.std.specs.Prelude.{◌≡◌, ℕ, List, [], ◌∷◌, ◌++◌, map, option_copied};
+ghost use Rattle.std.specs.Prelude.{◌≡◌, ℕ, List, [], ◌∷◌, ◌++◌, option_copied};
 ghost use Rattle.http_edge.specs.Fields.{single, field, only};
-ghost use Rattle.http_edge.specs.Seen.{header_of};
 ghost use Rattle.http_edge.specs.Stages.{single_of};
 
-use crate::message::Header;
+use crate::fields::field;
+use crate::headers::Headers;
 use http1::text::eq_ignore_case;
 
 /// The value of a field that is to stand at most once.
@@ -51,21 +51,10 @@ impl<'a> Single<'a> {
     }
 }
 
-/// What stands under this name.
-#[tactic(auto, unfolding(crate::specs::Fields::field))]
-fn named<'a>(headers: &'a [Header], name: &[u8]) -> Single<'a>
-    ensures { single_of result ≡ field name.now (map header_of headers.now) }
-{
-    let mut found = Single::Absent;
-    for header in headers {
-        found = found.and(name, &header.name, &header.value);
-    }
-    found
-}
-
 /// The value of the field with this name, where there is exactly one. Names are compared in any case.
-pub fn only_value<'a>(headers: &'a [Header], name: &[u8]) -> Option<&'a [u8]>
-    ensures { option_copied result ≡ only (field name.now (map header_of headers.now)) }
+pub fn only_value<'a>(headers: &'a Headers, name: &[u8]) -> Option<&'a [u8]>
+    ensures { option_copied result ≡ only (field name.now headers.now) }
 {
-    named(headers, name).only()
+    let (text, spans) = headers.parts();
+    field(text, spans, name).only()
 }

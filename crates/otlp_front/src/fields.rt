@@ -1,18 +1,17 @@
 //! What the fields of a message say of a post.
 
-ghost use Rattle.std.specs.Prelude.{◌≡◌, map, reverse, option_copied};
+ghost use Rattle.std.specs.Prelude.{◌≡◌, reverse, option_copied};
 ghost use Rattle.httparse.specs.Grammar.{skip_ows, trim_ows};
-ghost use Rattle.http_edge.specs.Seen.{header_of};
 ghost use Rattle.otlp_front.specs.Fields.{is_protobuf, has_protobuf, is_plain, are_plain};
 
 use crate::target::before;
-use http_edge::{Header, only_value};
+use http_edge::{Headers, only_value};
 use http1::text::eq_ignore_case;
 use httparse::is_space_or_tab;
 
 /// Whether the content is in Protocol Buffers' encoding.
-pub(crate) fn has_protobuf(headers: &[Header]) -> bool
-    ensures { result ≡ has_protobuf (map header_of headers.now) }
+pub(crate) fn has_protobuf(headers: &Headers) -> bool
+    ensures { result ≡ has_protobuf headers.now }
 {
     is_protobuf(only_value(headers, b"content-type"))
 }
@@ -27,12 +26,13 @@ fn is_protobuf(content_type: Option<&[u8]>) -> bool
 }
 
 /// Whether no field says that the content is coded.
-pub(crate) fn are_plain(headers: &[Header]) -> bool
-    ensures { result ≡ are_plain (map header_of headers.now) }
+pub(crate) fn are_plain(headers: &Headers) -> bool
+    ensures { result ≡ are_plain headers.now }
 {
+    let (text, spans) = headers.parts();
     let mut are = true;
-    for header in headers {
-        are &= is_plain(&header.name, &header.value);
+    for span in spans {
+        are &= is_plain(span.name.of(text), span.value.of(text));
     }
     are
 }

@@ -1,7 +1,7 @@
 //! The rules, in their order.
 
-ghost use Rattle.std.specs.Prelude.{◌≡◌, map, Some};
-ghost use Rattle.http_edge.specs.Seen.{seen, header_of};
+ghost use Rattle.std.specs.Prelude.{◌≡◌, Some};
+ghost use Rattle.http_edge.specs.Seen.{seen};
 ghost use Rattle.tail_settings.specs.Settings.{settings_view};
 ghost use Rattle.otlp_front.specs.Route.{names_in, is_post, tenant_in, route_to, route_of, number_of};
 ghost use Rattle.otlp_front.specs.Seen.{route_by};
@@ -11,7 +11,7 @@ use crate::fields::{are_plain, has_protobuf};
 use crate::refusal::RouteRefusal;
 use crate::target::is_for_traces;
 use http::Method;
-use http_edge::{Header, HttpMessage, only_value};
+use http_edge::{Headers, HttpMessage, only_value};
 use std::str;
 use tail_settings::Settings;
 
@@ -41,9 +41,8 @@ fn is_post(method: &Method) -> bool
 }
 
 /// The number of the tenant that the message names.
-fn named_tenant(settings: &Settings, headers: &[Header]) -> Option<u32>
-    ensures { result ≡ tenant_in (names_in (settings_view settings.now))
-        (map header_of headers.now) }
+fn named_tenant(settings: &Settings, headers: &Headers) -> Option<u32>
+    ensures { result ≡ tenant_in (names_in (settings_view settings.now)) headers.now }
 {
     let name = only_value(headers, settings.global.tenant_header.as_bytes())?;
     number_of(settings, name)
@@ -60,8 +59,8 @@ fn number_of(settings: &Settings, name: &[u8]) -> Option<u32>
 }
 
 /// Where a post to this tenant goes, by what it says of its content.
-fn route_to(headers: &[Header], tenant: u32) -> Route
-    ensures { route_by result ≡ route_to (map header_of headers.now) (Some tenant) }
+fn route_to(headers: &Headers, tenant: u32) -> Route
+    ensures { route_by result ≡ route_to headers.now (Some tenant) }
 {
     if !has_protobuf(headers) {
         return Route::Refuse(RouteRefusal::UnsupportedType);

@@ -8,7 +8,7 @@ use agreed_list::{AgreedList, Half};
 use bytes::Bytes;
 use export_edge::{Addresses, BackEnd};
 use http::Method;
-use http_edge::{Header, HttpMessage};
+use http_edge::{Headers, HttpMessage};
 use job_lane::Job;
 use otlp_front::RouteRefusal;
 use send_retry::Answer;
@@ -165,23 +165,19 @@ fn tenants_come_and_leave_by_a_registrar(rt: HostRuntime) {
     assert!(rt; holds(&rt, rt.alloc(), Look::Tenants));
 }
 
-fn field(rt: &impl Abort, alloc: Global, name: &str, value: &str) -> Header {
-    Header {
-        name: name.as_bytes().to_vec(alloc).expect(rt, "memory"),
-        value: value.as_bytes().to_vec(alloc).expect(rt, "memory"),
-    }
-}
-
 /// A post of spans for the tenant of this name.
 fn post(rt: &impl Abort, alloc: Global, tenant: &str) -> HttpMessage {
-    let headers = [
-        field(rt, alloc, "X-Scope-OrgID", tenant),
-        field(rt, alloc, "Content-Type", "application/x-protobuf"),
-    ];
+    let mut headers = Headers::new(alloc);
+    headers
+        .push(b"X-Scope-OrgID", tenant.as_bytes())
+        .expect(rt, "memory");
+    headers
+        .push(b"Content-Type", b"application/x-protobuf")
+        .expect(rt, "memory");
     HttpMessage {
         method: Method::POST,
         target: Vec::from_slice(alloc, b"/v1/traces").expect(rt, "memory"),
-        headers: Vec::from_array(alloc, headers).expect(rt, "memory"),
+        headers,
         body: Vec::new(alloc),
     }
 }

@@ -1,11 +1,11 @@
 //! How many bytes of bodies are on their way at a time.
 
-ghost use Rattle.std.specs.Prelude.{◌≡◌, map};
+ghost use Rattle.std.specs.Prelude.{◌≡◌};
 ghost use Rattle.http1.specs.Fields.{known_fields};
-ghost use Rattle.http_edge.specs.Seen.{header_of, seen};
+ghost use Rattle.http_edge.specs.Seen.{seen};
 ghost use Rattle.service_runtime.specs.BodyMemory.{claimed_with, counted_for};
 
-use http_edge::{Header, HttpMessage, MAX_BODY};
+use http_edge::{Headers, HttpMessage, MAX_BODY};
 use http1::fields::{ContentLength, KnownFields};
 use std::sync::atomic::{AtomicU64, Ordering};
 
@@ -108,12 +108,9 @@ fn counted_for(head: &HttpMessage) -> u64
     }
 }
 
-fn known_fields(headers: &[Header]) -> KnownFields
-    ensures { result ≡ known_fields (map header_of headers.now) }
+fn known_fields(headers: &Headers) -> KnownFields
+    ensures { result ≡ known_fields headers.now }
 {
-    let mut known = KnownFields::new();
-    for header in headers {
-        known.add(&header.name, &header.value);
-    }
-    known
+    let (text, spans) = headers.parts();
+    KnownFields::from_spans(text, spans)
 }

@@ -1,18 +1,17 @@
 //! Who is let in at the admin port.
 
-ghost use Rattle.std.specs.Prelude.{◌≡◌, map, option_copied};
+ghost use Rattle.std.specs.Prelude.{◌≡◌, option_copied};
 ghost use Rattle.admin_pages.specs.Route.{route_view};
-ghost use Rattle.http_edge.specs.Seen.{header_of};
 ghost use Rattle.service_runtime.specs.Token.{bearer, is_change, is_for_all, is_from_page, is_let_in, is_wanted, token_of, without_spaces};
 
 use admin_pages::{AdminRoute, same_token};
-use http_edge::{Header, only_value};
+use http_edge::{Headers, only_value};
 use http1::text::eq_ignore_case;
 
 /// Whether a message with these fields is let in there: it has the token that is wanted, and where none is it isn't a
 /// page that asks for a change.
-pub fn is_let_in(wanted: Option<&[u8]>, headers: &[Header], asked: &AdminRoute<'_>) -> bool
-    ensures { result ≡ is_let_in (option_copied wanted.entry) (map header_of headers.now)
+pub fn is_let_in(wanted: Option<&[u8]>, headers: &Headers, asked: &AdminRoute<'_>) -> bool
+    ensures { result ≡ is_let_in (option_copied wanted.entry) headers.now
         (route_view asked.now) }
 {
     match wanted {
@@ -42,12 +41,15 @@ fn is_change(asked: &AdminRoute<'_>) -> bool
 }
 
 /// Whether a page that a browser shows asks. It may be any site's: a form posts wherever it likes.
-fn is_from_page(headers: &[Header]) -> bool
-    ensures { result ≡ is_from_page (map header_of headers.now) }
+fn is_from_page(headers: &Headers) -> bool
+    ensures { result ≡ is_from_page headers.now }
 {
-    headers
-        .iter()
-        .any(|header| eq_ignore_case(&header.name, b"origin"))
+    let (text, spans) = headers.parts();
+    let mut is = false;
+    for span in spans {
+        is |= eq_ignore_case(span.name.of(text), b"origin");
+    }
+    is
 }
 
 /// Whether this token is the one that is wanted.
@@ -61,8 +63,8 @@ fn is_wanted(wanted: &[u8], given: Option<&[u8]>) -> bool
 }
 
 /// The token of a message, if it has one.
-fn token_in(headers: &[Header]) -> Option<&[u8]>
-    ensures { option_copied result ≡ token_of (map header_of headers.now) }
+fn token_in(headers: &Headers) -> Option<&[u8]>
+    ensures { option_copied result ≡ token_of headers.now }
 {
     bearer(only_value(headers, b"authorization")?)
 }

@@ -1,7 +1,7 @@
 //! Lines of an input, texts that are written or lost, and who is let in at the admin port.
 
 use admin_pages::AdminRoute;
-use http_edge::Header;
+use http_edge::Headers;
 use service_runtime::{Line, is_let_in, next_line, write_text};
 use std::alloc::Global;
 use std::process::Abort;
@@ -40,14 +40,6 @@ fn a_text_that_has_no_room_is_lost_and_counted(rt: HostRuntime) {
     assert!(rt; room.as_slice() == b"abcde".as_slice());
 }
 
-/// A message's only field.
-fn field(rt: &impl Abort, alloc: Global, name: &str, value: &str) -> Header {
-    Header {
-        name: name.as_bytes().to_vec(alloc).expect(rt, "memory"),
-        value: value.as_bytes().to_vec(alloc).expect(rt, "memory"),
-    }
-}
-
 /// Whether a message with this field is let in where this token is wanted.
 fn lets_in(
     rt: &impl Abort,
@@ -56,7 +48,10 @@ fn lets_in(
     asked: &AdminRoute<'_>,
     (name, value): (&str, &str),
 ) -> bool {
-    let headers = [field(rt, alloc, name, value)];
+    let mut headers = Headers::new(alloc);
+    headers
+        .push(name.as_bytes(), value.as_bytes())
+        .expect(rt, "memory");
     is_let_in(wanted, &headers, asked)
 }
 

@@ -76,7 +76,7 @@ impl<'c, 'h, J: Naming, R: Wait + Clock> Handler for AdminHandler<'c, 'h, J, R> 
     /// Who isn't let in is refused before the body comes.
     fn reply_to_head(&self, head: &HttpMessage) -> Option<Reply> {
         let asked = admin_route(head.method.as_str(), path(head.target.as_slice()));
-        if is_let_in(self.port.token, head.headers.as_slice(), &asked) {
+        if is_let_in(self.port.token, &head.headers, &asked) {
             return None;
         }
         match not_let_in(self.context.alloc, self.port.token) {
@@ -142,7 +142,7 @@ impl<'c, 'h, J: Naming, R: Wait + Clock> AdminHandler<'c, 'h, J, R> {
     {
         let asked = admin_route(message.method.as_str(), path(message.target.as_slice()));
         let document = message.body.as_slice();
-        if is_let_in(self.port.token, message.headers.as_slice(), &asked) {
+        if is_let_in(self.port.token, &message.headers, &asked) {
             self.show(asked, document)
         } else {
             not_let_in(self.context.alloc, self.port.token)

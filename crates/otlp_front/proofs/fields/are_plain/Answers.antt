@@ -1,14 +1,16 @@
 use Rattle.std.proofs.Common.{map, ap, ◌∙◌}
 use Rattle.std.specs.List.{list_all}
 use Rattle.std.proofs.lemmas.List.{take_all}
-use Rattle.http_edge.specs.Seen.{header_of}
-use Rattle.otlp_front.specs.Fields.{is_plain}
+use Rattle.httparse.specs.Spans.{header_bytes}
+use Rattle.otlp_front.specs.Fields.{is_plain, are_plain}
 use Rattle.otlp_front.proofs.Plain.{plain_values}
 use Rattle.otlp_front.proofs.fields.are_plain.Goals as goal
 
 pub returns : goal.returns
 returns c =
-    c.loop-header.invariant
-    ∙ ap (λ hs. list_all is_plain (map header_of hs)) (take_all c.loop-header.header-index c.args.headers.now
-    c.loop-header-test.false)
-    ∙ plain_values (map header_of c.args.headers.now)
+    let text = c.parts.result.0.now in
+    let spans = c.parts.result.1.now in
+    c.loop-span.invariant
+    ∙ (ap (λ ss. list_all is_plain (map (header_bytes text) ss)) (take_all c.loop-span.span-index spans
+    c.loop-span-test.false)
+    ∙ (plain_values (map (header_bytes text) spans) ∙ ap are_plain c.parts.ensures.fields))
