@@ -1,6 +1,6 @@
 //! What the fields of a message say of a post.
 
-ghost use Rattle.std.specs.Prelude.{◌≡◌, reverse, option_copied};
+ghost use Rattle.std.specs.Prelude.{◌≡◌, Some, reverse, option_copied};
 ghost use Rattle.httparse.specs.Grammar.{skip_ows, trim_ows};
 ghost use Rattle.otlp_front.specs.Fields.{is_protobuf, has_protobuf, is_plain, are_plain};
 
@@ -20,9 +20,16 @@ fn is_protobuf(content_type: Option<&[u8]>) -> bool
     ensures { result ≡ is_protobuf (option_copied content_type.entry) }
 {
     match content_type {
-        Some(value) => eq_ignore_case(trim(before(value, b';')), b"application/x-protobuf"),
+        Some(value) => value == b"application/x-protobuf".as_slice() || is_protobuf_type(value),
         None => false,
     }
+}
+
+/// Whether this is the type of Protocol Buffers' encoding, in any case and with any parameters.
+fn is_protobuf_type(value: &[u8]) -> bool
+    ensures { result ≡ is_protobuf (Some value.now) }
+{
+    eq_ignore_case(trim(before(value, b';')), b"application/x-protobuf")
 }
 
 /// Whether no field says that the content is coded.
