@@ -197,8 +197,11 @@ impl Watch {
         let fresh = &bytes[self.seen.min(bytes.len())..];
         self.seen = bytes.len();
         self.is_begun |= has_text(fresh);
-        let is_line = self.is_begun && fresh.contains(&b'\n');
-        let is_due = ended || is_line || bytes.len() >= MAX_PART || bytes.len() / 2 >= self.looked;
+        // What takes time is asked last: the first look at a head's bytes is due without it.
+        let is_due = ended
+            || bytes.len() >= MAX_PART
+            || bytes.len() / 2 >= self.looked
+            || self.is_begun && fresh.contains(&b'\n');
         if is_due {
             self.looked = bytes.len();
         }
