@@ -13,7 +13,7 @@ ghost use Rattle.http_edge.specs.Stages.{IsHeadProgress, IfHead, IsWatched, IsMe
 ghost use Rattle.http_edge.specs.declared.wire.EdgeFault.TheVariants.{ReadFailed, OutOfMemory};
 
 use crate::body::{BodyRead, read_body};
-use crate::head::{BodyKind, Head, HeadProgress, head_at};
+use crate::head::{BodyKind, Head, HeadProgress, NO_PLACES, Places, head_at};
 use crate::message::{Allow, Handler, HttpMessage, RefusalForm, Reply};
 use crate::reply::{
     is_for_no_memory, no_memory_bytes, plain_bytes, refusal_body, refusal_media, taken_bytes,
@@ -103,7 +103,17 @@ fn converse<T: Threads + Sync, L: Line, H: Handler>(
         → HasFailed (L.failed line.old) (L.failed line.new) }
 {
     let mut room: Room = [0u8; 8192];
-    'messages: while exchange(rt, alloc, line, handler, &mut room, buffer, bodiless)? {}
+    let mut places = NO_PLACES;
+    'messages: while exchange(
+        rt,
+        alloc,
+        line,
+        handler,
+        &mut room,
+        &mut places,
+        buffer,
+        bodiless,
+    )? {}
     Ok(())
 }
 
@@ -115,6 +125,7 @@ fn exchange<T: Threads + Sync, L: Line, H: Handler>(
     line: &mut L,
     handler: &mut H,
     room: &mut Room,
+    places: &mut Places,
     buffer: &mut Vec<u8>,
     bodiless: &mut bool,
 ) -> Result<bool, EdgeFault>
@@ -139,7 +150,7 @@ fn exchange<T: Threads + Sync, L: Line, H: Handler>(
         → HasFailed (L.failed line.old) (L.failed line.new) }
 {
     *bodiless = false;
-    match read_head(alloc, line, room, buffer)? {
+    match read_head(alloc, line, room, places, buffer)? {
         HeadProgress::More => Ok(false),
         HeadProgress::TooMany => {
             refuse(alloc, line, H::refusals(), 431, false)?;
@@ -172,6 +183,7 @@ fn read_head<L: Line>(
     alloc: Global,
     line: &mut L,
     room: &mut Room,
+    places: &mut Places,
     buffer: &mut Vec<u8>,
 ) -> Result<HeadProgress, EdgeFault>
     ensures on_success { IfOk result (λ begin. (read : List ℕ)
@@ -203,7 +215,7 @@ fn read_head<L: Line>(
 {
     let mut watch = Watch::before_head();
     'looks: loop {
-        match look(alloc, line, room, buffer, &mut watch)? {
+        match look(alloc, line, room, places, buffer, &mut watch)? {
             Some(begin) => return Ok(begin),
             None => {}
         }
@@ -216,6 +228,7 @@ fn look<L: Line>(
     alloc: Global,
     line: &mut L,
     room: &mut Room,
+    places: &mut Places,
     buffer: &mut Vec<u8>,
     watch: &mut Watch,
 ) -> Result<Option<HeadProgress>, EdgeFault>
@@ -250,26 +263,31 @@ fn look<L: Line>(
         → HasFailed (L.failed line.old) (L.failed line.new) }
     ensures no_write { result ≢ Err EdgeFault.WriteFailed }
 {
-    match head_due(alloc, buffer, watch) {
+    match head_due(alloc, buffer, places, watch) {
         Some(begin) => return Ok(Some(begin)),
         None => {}
     }
     match buffer.reserve(READ_AT_MOST) {
         Ok(()) => {}
         Err(AllocError) => {
-            let begin = head_there(alloc, buffer).ok_or(EdgeFault::OutOfMemory)?;
+            let begin = head_there(alloc, buffer, places).ok_or(EdgeFault::OutOfMemory)?;
             return Ok(Some(begin));
         }
     }
     if fill(line, buffer, &mut room[..READ_AT_MOST])? {
         return Ok(None);
     }
-    Ok(Some(head_at(alloc, buffer)))
+    Ok(Some(head_at(alloc, buffer, places)))
 }
 
 /// What the bytes begin with, where it is time to look and they aren't less than a head. Before it is time they are: no
 /// line has ended since the last look. Where there is no byte nothing is looked at.
-fn head_due(alloc: Global, bytes: &[u8], watch: &mut Watch) -> Option<HeadProgress>
+fn head_due(
+    alloc: Global,
+    bytes: &[u8],
+    places: &mut Places,
+    watch: &mut Watch,
+) -> Option<HeadProgress>
     requires { IsWatched HasNoRequest bytes.now watch.old }
     ensures found { IfSome result (IsHeadProgress bytes.now) }
     ensures whole { result ≢ Some HeadProgress.More }
@@ -278,19 +296,19 @@ fn head_due(alloc: Global, bytes: &[u8], watch: &mut Watch) -> Option<HeadProgre
     ensures blank { watch.new.is_begun ≡ false → has_text bytes.now ≡ false }
 {
     if watch.is_due(bytes, false) && !bytes.is_empty() {
-        head_there(alloc, bytes)
+        head_there(alloc, bytes, places)
     } else {
         None
     }
 }
 
 /// What the bytes begin with, where they aren't less than a head.
-fn head_there(alloc: Global, bytes: &[u8]) -> Option<HeadProgress>
+fn head_there(alloc: Global, bytes: &[u8], places: &mut Places) -> Option<HeadProgress>
     ensures found { IfSome result (IsHeadProgress bytes.now) }
     ensures whole { result ≢ Some HeadProgress.More }
     ensures none { result ≡ None → HasNoRequest bytes.now }
 {
-    match head_at(alloc, bytes) {
+    match head_at(alloc, bytes, places) {
         HeadProgress::More => None,
         begin => Some(begin),
     }
