@@ -74,7 +74,7 @@ impl TextPool {
 
     /// One use more of the tenant's text at this key, of which nothing is looked up. The answer is the key under which
     /// that use is kept, another one only where this one's uses can't be counted any more. Where the tenant has no text
-    /// there, nothing changes.
+    /// there, nothing changes, and the answer is this key.
     pub fn hold_again(&mut self, tenant: u32, key: u32) -> Result<u32, AllocError>
         ensures own_part { IfOk result (λ again. IfSome (part tenant self.old key)
             (λ kept. part tenant self.new ≡ with_text again
@@ -82,7 +82,7 @@ impl TextPool {
         ensures same { IfOk result (λ again. IfSome (part tenant self.old again) (λ kept.
             Some kept.text ≡ text_of (part tenant self.old key))) }
         ensures vacant { part tenant self.old key ≡ None
-            → part tenant self.new ≡ part tenant self.old }
+            → (result ≡ Ok key) × (part tenant self.new ≡ part tenant self.old) }
         ensures room { IfSome (part tenant self.old key)
             (λ kept. kept.uses + 1 < 2 ^ 64 → result ≡ Ok key) }
 
