@@ -1,6 +1,6 @@
 //! The batches that were handed out and aren't settled, by their tickets.
 
-ghost use Rattle.std.specs.Prelude.{◌≡◌, [], ◌∷◌, ◌++◌, length, OnOk, OnErr, Some, option_map};
+ghost use Rattle.std.specs.Prelude.{◌≡◌, [], ◌∷◌, ◌++◌, length, OnOk, OnErr, None, Some, option_map};
 ghost use Rattle.send_retry.specs.Delay.{state_view};
 ghost use Rattle.send_queue.specs.Sender.{ActiveData, under, without, replaced};
 ghost use Rattle.send_queue.specs.View.{active_view};
@@ -71,11 +71,13 @@ impl Actives {
         self.entries.remove(&ticket)
     }
 
-    /// The batch under a ticket waits to be sent again from the moment `due` on, in milliseconds. It takes no memory.
+    /// The batch under a ticket, where there is one, waits to be sent again from the moment `due` on, in milliseconds.
+    /// It takes no memory.
     pub(crate) fn set_waiting(&mut self, ticket: u64, due: u64, retry: RetryState)
-        ensures { (a : ActiveData) → under ticket self.old ≡ Some a →
+        ensures waiting { (a : ActiveData) → under ticket self.old ≡ Some a →
             self.new ≡ replaced ticket (record a { retry = state_view retry; due = Some due })
             self.old }
+        ensures none { under ticket self.old ≡ None → self.new ≡ self.old }
     {
         let Some(active) = self.entries.get_mut(&ticket) else {
             return;

@@ -44,7 +44,7 @@ invariant_of-self-in-Waits c =
     record {
       whole =
           subst (λ (bs : List ActiveData). IsWhole bs (heap_items q) (heap_len q) (heap_capacity q) c.self.inside.sending.num_consumers c.self.inside.handed_out)
-          (sym (c.set_waiting.ensures a there))
+          (sym (c.set_waiting.ensures.waiting a there))
           (whole_waits t c.in-Waits.due a b _ (heap_items q) (heap_len q) (heap_capacity q) c.self.invariant.whole there (none_is a.due c.if-is_none.ensures) refl refl refl refl c.in-Ok.ensures.permutation c.in-Ok.ensures.heap_order c.in-Ok.ensures.len c.in-Ok.ensures.capacity);
       left = c.self.invariant.left;
     }
@@ -63,7 +63,7 @@ returns-in-Ok-clause-answered c =
     let stays : Stays c.in-Waits.due (state_view c.in-Waits.state) ≡ fate now word answer a = sym (ap fate_view c.in-Waits.is) ∙ c.fate.ensures in
     let flies : flying (Some a) ≡ Some a = rw c.if-is_none.ensures refl in
     let in_flight : flying (under t bs) ≡ Some a = ap flying there ∙ flies in
-    ap (λ (l : List ActiveData). let z : SenderData = record s { active = l } in z) (c.set_waiting.ensures a there)
+    ap (λ (l : List ActiveData). let z : SenderData = record s { active = l } in z) (c.set_waiting.ensures.waiting a there)
     ∙ (ap (λ (f : FateData). let z : SenderData = record s { active = left_by a f bs } in z) stays
     ∙ (ap (λ (o : Option ActiveData). answered_by now word answer o s) (sym in_flight)
     ∙ ap (λ (s : SenderData). answered t now word answer s) c.self.view_is))
