@@ -27,6 +27,12 @@ pub record ReleasesAll {N : Type 0} (keys : List ℕ) (old new : Part N) : Type 
   pub rows : new.rows ≡ old.rows
   pub latest_rows : new.latest_rows ≡ old.latest_rows
 
+-- the same but for texts
+pub record SameButTexts {N : Type 0} (old new : Part N) : Type 0 where
+  pub spans : new.spans ≡ old.spans
+  pub rows : new.rows ≡ old.rows
+  pub latest_rows : new.latest_rows ≡ old.latest_rows
+
 -- the span lies at a key that was vacant, which joined the row; the row has this note
 pub record Joins {N : Type 0} (number key : ℕ) (span : StoredData) (note : N) (old new : Part N) : Type 0 where
   pub vacant : old.spans key ≡ None

@@ -1,6 +1,6 @@
 //! The stores that all tenants of a shard share.
 
-ghost use Rattle.std.specs.Prelude.{◌≡◌, ◌≢◌, ◌+◌, ◌++◌, ◌∷◌, [], ℕ, length};
+ghost use Rattle.std.specs.Prelude.{◌≡◌, ◌≢◌, ◌<◌, ◌≤◌, ◌+◌, ◌++◌, ◌∷◌, [], ℕ, length};
 ghost use Rattle.std.specs.Prelude.{None, Some, IfOk, OnOk, OnErr, option_copied, true};
 ghost use Rattle.text_pool.specs.Part as text_part;
 ghost use Rattle.trace_rows.specs.Part.{keys_of, note_of, rows_part, latest_rows_part, with_at, with_latest_row, IsSame};
@@ -8,7 +8,7 @@ ghost use Rattle.tenant_stores.specs.Part.{Part, part};
 ghost use Rattle.tenant_stores.specs.Counts.{Counts, no_rows, one_opened, one_decided, one_swept};
 ghost use Rattle.tenant_stores.specs.View.{text_keys};
 ghost use Rattle.tenant_stores.specs.Invariant.{StoreInvariant};
-ghost use Rattle.tenant_stores.specs.Changes.{new_row, Joins, Opens, Settles};
+ghost use Rattle.tenant_stores.specs.Changes.{new_row, SameButTexts, Joins, Opens, Settles};
 ghost use Rattle.tenant_stores.specs.Changes.{ReleasesAll, Waits, Leaves, Drops, Sweeps};
 ghost use Rattle.tenant_stores.specs.Shows.{LatestRowShows};
 ghost use Rattle.tenant_stores.specs.Trail.{HoldsAll, IsUndone, Trail};
@@ -100,6 +100,7 @@ impl<N: Drop> Stores<N> {
         ensures shows { OnOk result (ShowsSame (part tenant self.old) (part tenant self.new)) }
         ensures stay { OnOk result (WhereSound (part tenant self.old)
             (λ n pending held. TextsStay held (part tenant self.old) (part tenant self.new))) }
+        ensures rest { SameButTexts (part tenant self.old) (part tenant self.new) }
 
         // Other tenants' parts stay as they were, and where memory is refused this tenant's too.
         ensures others_unchanged { OthersUnchanged tenant self.old self.new }
@@ -140,6 +141,7 @@ impl<N: Drop> Stores<N> {
             (part tenant self.new)) }
         ensures stay { OnOk result (WhereInHand keys (part tenant self.old)
             (λ n pending held. TextsStay held (part tenant self.old) (part tenant self.new))) }
+        ensures rest { SameButTexts (part tenant self.old) (part tenant self.new) }
 
         // Other tenants' parts stay as they were, and where memory is refused this tenant's too.
         ensures others_unchanged { OthersUnchanged tenant self.old self.new }
@@ -186,6 +188,7 @@ impl<N: Drop> Stores<N> {
             (part tenant self.new)) }
         ensures stay { OnOk result (WhereInHand keys (part tenant self.old)
             (λ n pending held. TextsStay held (part tenant self.old) (part tenant self.new))) }
+        ensures rest { SameButTexts (part tenant self.old) (part tenant self.new) }
 
         // Other tenants' parts stay as they were, and where memory is refused this tenant's too.
         ensures others_unchanged { OthersUnchanged tenant self.old self.new }
@@ -387,6 +390,8 @@ impl<N: Drop> Stores<N> {
         ensures gone { (n : Counts) → swept ≡ n.swept → opened ≡ n.opened
             → StoreInvariant n [] [] (part tenant self.old)
             → StoreInvariant no_rows [] [] (part tenant self.new) }
+        ensures rows { (number : ℕ) → swept < number → number ≤ opened
+            → (part tenant self.new).rows number ≡ None }
         ensures others_unchanged { OthersUnchanged tenant self.old self.new }
     {
         for before in swept..opened {
