@@ -69,6 +69,29 @@ turned_leaves moment own new p sends =
     let most = turned_queue moment (choice moment own.sender) s in
     omega (arith, is, most)
 
+-- and none comes
+kept_queue : (moment : ℕ) (c : Choice) (s : State) → length (turned_by moment c s).sender.queue ≤ length s.sender.queue
+kept_queue moment (Retried a) s = omega arith
+kept_queue moment (Oldest b) s = by_queue s.sender.queue
+  where
+    by_queue : (q : List BatchData) → length (drop 1 q) ≤ length q
+    by_queue [] = omega arith
+    by_queue (b ∷ q) = omega arith
+kept_queue moment NoBatch s = omega arith
+
+pub turned_keeps : (moment : ℕ) (own new : Pipeline) (p : Part TraceNote) → Sends (turned moment) own new → length new.sender.queue ≤ length own.sender.queue
+turned_keeps moment own new p sends =
+    let s : State = written_state_of own p in
+    let is : length (turned moment s).sender.queue ≡ length new.sender.queue = ap (λ (t : State). length t.sender.queue) (sends.rules s refl refl) in
+    let most = kept_queue moment (choice moment own.sender) s in
+    omega (arith, is, most)
+
+-- where a back end answers, the same wait
+pub answered_keeps : (moment ticket word : ℕ) (given : AnswerData) (own new : Pipeline) (p : Part TraceNote) → Sends (settled ticket moment word given) own new → length new.sender.queue ≡ length own.sender.queue
+answered_keeps moment ticket word given own new p sends =
+    sym (ap (λ (t : State). length t.sender.queue) (sends.rules (written_state_of own p) refl refl))
+    ∙ ap (λ (q : List BatchData). length q) (answered_queue ticket moment word given own.sender)
+
 -- ---- a batch is written
 
 -- what the rules see
@@ -85,7 +108,8 @@ room_ahead reached own p u rest holds us_is =
 module _ (own : Pipeline) (p q : Part TraceNote) (u : Batch ℕ) (rest : List (Batch ℕ)) (sender : SenderData) (us_is : own.unsent ≡ u ∷ rest) (sender_is : sender ≡ with_behind (as_sent (batch_at p u) ∷ []) own.sender)
     (leaves : (n : Counts) (pending left held : List ℕ) → ((key : ℕ) → count key u.spans + count key left ≡ count key pending) → StoreInvariant n pending held p → StoreInvariant n left held q)
     (leaves_shown : (n : Counts) (pending left held shown : List ℕ) → ((key : ℕ) → count key u.spans + count key left ≡ count key pending) → StoreInvariant n pending held p → AreAmong shown left → view n shown q ≡ view n shown p)
-    (sound : StoreInvariant (counts_in own) (spans_of own.unsent ++ own.batcher.spans) [] p) where
+    (sound : StoreInvariant (counts_in own) (spans_of own.unsent ++ own.batcher.spans) [] p)
+    (short : length own.sender.queue ≤ 1) where
   abbrev new : Pipeline
   new = record own { sender = sender; unsent = rest }
 
@@ -133,6 +157,7 @@ module _ (own : Pipeline) (p q : Part TraceNote) (u : Batch ℕ) (rest : List (B
     holds = holds_then;
     same = refl;
     more = let longer = ap (λ (s : SenderData). length s.queue) sender_is in let both = length-append own.sender.queue (as_sent (batch_at p u) ∷ []) in omega (arith, longer, both);
+    few = let longer = ap (λ (s : SenderData). length s.queue) sender_is in let both = length-append own.sender.queue (as_sent (batch_at p u) ∷ []) in omega (arith, longer, both, short);
   }
 
 -- ---- steps

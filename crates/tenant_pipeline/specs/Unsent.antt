@@ -1,6 +1,6 @@
 -- How batches wait that aren't written yet, behind those that are (the Collector's exporterhelper, as `tenant_rules`
 -- has it).
-use Rattle.std.specs.Prelude.{◌≡◌, ◌<◌, ◌≤◌, ◌+◌, ◌^◌, ℕ, Bool, true, false, List, [], length, map, Option, None, Some}
+use Rattle.std.specs.Prelude.{◌≡◌, ◌<◌, ◌≤◌, ◌+◌, ◌^◌, ℕ, max, Bool, true, false, List, [], length, map, Option, None, Some}
 use Rattle.drop_ledger.specs.Ledger.{LedgerData}
 use Rattle.send_queue.specs.Sender.{SenderData, payload_bytes}
 use Rattle.span_batcher.specs.Batches.{Batch}
@@ -54,7 +54,8 @@ pub record AddsAll (p : Part TraceNote) (batches : List (Batch ℕ)) (sender : S
   pub weighed : IsWeighed p new
   pub pending : l'.places.pending + length (spans_of batches) ≡ l.places.pending
 
--- the next batch was written, and its spans left the stores, or nothing has changed: the rules see no change
+-- the next batch was written, and its spans left the stores, or nothing has changed: the rules see no change. No batch
+-- is written while two wait that are
 pub record IsAhead (old new : Pipeline) (p q : Part TraceNote) : Type 0 where
   pub whole : all_written new q ≡ all_written old p
   pub shows : view_in old q ≡ view_in old p
@@ -62,6 +63,7 @@ pub record IsAhead (old new : Pipeline) (p q : Part TraceNote) : Type 0 where
       → PipelineInvariantAt reached (spans_of new.unsent) [] (all_written new q) q
   pub same : new ≡ record old { sender = new.sender; unsent = new.unsent }
   pub more : length old.sender.queue ≤ length new.sender.queue
+  pub few : length new.sender.queue ≤ max 2 (length old.sender.queue)
 
 -- then the job was handed out whose turn it was; where batches are left that aren't written, one still waits before
 -- them that is

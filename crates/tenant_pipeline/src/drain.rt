@@ -1,6 +1,6 @@
 //! The end of a tenant: its rows are decided at once, and all that is pending is one batch.
 
-ghost use Rattle.std.specs.Prelude.{◌≡◌, ◌≢◌, ◌<◌, ◌≤◌, ◌+◌, [], true, ◌^◌, ℕ, List, None, Some, OnOk, OnErr, length};
+ghost use Rattle.std.specs.Prelude.{◌≡◌, ◌≢◌, ◌<◌, ◌≤◌, ◌+◌, [], true, ◌^◌, ℕ, max, List, None, Some, OnOk, OnErr, length};
 ghost use Rattle.span_batcher.specs.Maps.{spans_of};
 ghost use Rattle.span_batcher.specs.State.{next_due, IsAfter};
 ghost use Rattle.trace_rows.specs.Part.{with_at};
@@ -59,6 +59,8 @@ impl Pipeline {
         ensures section { self.new.section ≡ self.old.section }
         ensures clock { self.new.clock ≡ self.old.clock }
         ensures swept { IsSwept self.old → IsSwept self.new }
+        ensures first { OnOk result
+            (length self.new.sender.queue ≤ max 1 (length self.old.sender.queue)) }
     {
         let mut undo = Undo::of(self);
         let mut leaving = Leaving::none(self.alloc);
@@ -100,6 +102,8 @@ impl Pipeline {
             (sampled_waiting self.old (part_in self.old stores.now))) }
         ensures behind { OnOk result
             (0 < length leaving.new.unsent → 0 < length self.new.sender.queue) }
+        ensures first { OnOk result
+            (length self.new.sender.queue ≤ max 1 (length self.old.sender.queue)) }
         ensures back { (start : Own) → TakesBack undo.old start self.old
             → TakesBack undo.new start self.new }
     {
@@ -204,6 +208,10 @@ impl Pipeline {
             → count_left leaving.new key ≡ count_left leaving.old key) }
         ensures behind { OnOk result
             (0 < length leaving.new.unsent → 0 < length self.new.sender.queue) }
+        ensures one { OnOk result
+            (length leaving.old.unsent ≤ length leaving.new.unsent + 1) }
+        ensures first { OnOk result
+            (length self.new.sender.queue ≤ max 1 (length self.old.sender.queue)) }
         ensures back { (start : Own) → TakesBack undo.old start self.old
             → TakesBack undo.new start self.new }
     {

@@ -1,6 +1,7 @@
 //! Steps of a tenant that was drained, while batches wait that aren't written yet.
 
-ghost use Rattle.std.specs.Prelude.{◌≡◌, ◌<◌, ◌≤◌, ◌^◌, length, IfOk, OnOk, OnErr};
+ghost use Rattle.std.specs.Prelude.{◌≡◌, ◌<◌, ◌≤◌, ◌^◌, length, max, IfOk, OnOk, OnErr};
+ghost use Rattle.tenant_stores.specs.Part.{part};
 ghost use Rattle.tenant_stores.specs.Promises.{OthersUnchanged};
 ghost use Rattle.tenant_rules.specs.Answers.{turn_told};
 ghost use Rattle.tenant_rules.specs.Machine.{acts, told_at, turned};
@@ -41,6 +42,7 @@ impl Pipeline {
         ensures on_refusal { OnErr result
             (state_in self.new stores.new ≡ state_in self.old stores.old) }
         ensures holds_on_refusal { OnErr result (PipelineInvariant self.new stores.new) }
+        ensures few { length self.new.sender.queue ≤ max 2 (length self.old.sender.queue) }
         ensures swept { IsSwept self.old → IsSwept self.new }
         ensures others_unchanged { OthersUnchanged self.old.tenant stores.old stores.new }
         ensures tenant { self.new.tenant ≡ self.old.tenant }
@@ -92,6 +94,9 @@ impl Pipeline {
         ensures ahead { IsAhead self.old self.new (part_in self.old stores.old)
             (part_in self.old stores.new) }
         ensures two { OnOk result (1 < length self.new.sender.queue) }
+        ensures on_refusal { OnErr result (self.new ≡ self.old) }
+        ensures part_on_refusal { OnErr result
+            (part self.old.tenant stores.new ≡ part self.old.tenant stores.old) }
         ensures others_unchanged { OthersUnchanged self.old.tenant stores.old stores.new }
     {
         if self.sender.queued() > 1 {

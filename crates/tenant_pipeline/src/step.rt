@@ -1,6 +1,6 @@
 //! A tenant's own steps, one at a time.
 
-ghost use Rattle.std.specs.Prelude.{◌≡◌, ◌≤◌, ◌^◌, ◌↔◌, ℕ, List, [], false, max, IsTrue, IfOk, OnOk, OnErr};
+ghost use Rattle.std.specs.Prelude.{◌≡◌, ◌<◌, ◌≤◌, ◌^◌, ◌↔◌, ℕ, List, [], false, length, max, IsTrue, IfOk, OnOk, OnErr};
 ghost use Rattle.span_batcher.specs.Timers.{is_due};
 ghost use Rattle.tenant_stores.specs.Part.{part};
 ghost use Rattle.tenant_stores.specs.Promises.{OthersUnchanged};
@@ -102,6 +102,10 @@ impl Pipeline {
         ensures tenant { self.new.tenant ≡ self.old.tenant }
         ensures section { self.new.section ≡ self.old.section }
 
+        // While batches of a drain wait that aren't written, no more wait that are than two, or than before.
+        ensures few { 0 < length self.old.unsent
+            → length self.new.sender.queue ≤ max 2 (length self.old.sender.queue) }
+
         // Where its retirement is told the last report, it may leave the stores.
         ensures may_leave { IfOk result (λ told. (now : ℕ) (text : List ℕ)
             → own_step_of step.now ≡ Retire now → told ≡ replies.Report text
@@ -160,6 +164,8 @@ impl Pipeline {
         ensures others_unchanged { OthersUnchanged self.old.tenant stores.old stores.new }
         ensures tenant { self.new.tenant ≡ self.old.tenant }
         ensures section { self.new.section ≡ self.old.section }
+        ensures few { 0 < length self.old.unsent
+            → length self.new.sender.queue ≤ max 2 (length self.old.sender.queue) }
     {
         if !self.unsent.is_empty() {
             return self.take_drained(stores, moment, step);
@@ -237,6 +243,8 @@ impl Pipeline {
         ensures others_unchanged { OthersUnchanged self.old.tenant stores.old stores.new }
         ensures tenant { self.new.tenant ≡ self.old.tenant }
         ensures section { self.new.section ≡ self.old.section }
+        ensures first { OnOk result
+            (length self.new.sender.queue ≤ max 1 (length self.old.sender.queue)) }
     {
         if self.drained {
             return Ok(StepReply::Done);

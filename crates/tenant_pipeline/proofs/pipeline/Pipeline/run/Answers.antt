@@ -1,5 +1,6 @@
-use Rattle.std.proofs.Common.{◌≡◌, ◌∙◌, sym, ap, subst, Result, Ok, Err}
+use Rattle.std.proofs.Common.{◌≡◌, ◌∙◌, ℕ, List, length, sym, ap, subst, arith, Result, Ok, Err}
 use Rattle.std.specs.Prelude.{IfOk, OnOk, OnErr}
+use Rattle.span_batcher.specs.Batches.{Batch}
 use Rattle.tenant_rules.specs.Machine.{acts, told_at}
 use Rattle.tenant_rules.specs.State.{State}
 use Rattle.tenant_rules.specs.Timers.{IsFront}
@@ -35,6 +36,16 @@ returns-then-not-is_empty-clause-told c =
     subst (λ (s : State). IfOk c.take_drained.result (λ told. told ≡ told_at c.args.moment (own_step_of c.args.step.now) (at c.args.moment s))) (sym none) c.take_drained.ensures.told
 
 -- ---- and else
+
+pub returns-clause-few : goal.returns-clause-few
+returns-clause-few c = λ some.
+    let none = ap (λ (us : List (Batch ℕ)). length us) (empty_by c.args.self.now.unsent c.is_empty.result c.if-not-is_empty.false c.is_empty.ensures.0) in
+    absurd (omega (arith, some, none))
+
+pub returns-in_err-run_due-clause-few : goal.returns-in_err-run_due-clause-few
+returns-in_err-run_due-clause-few c = λ some.
+    let none = ap (λ (us : List (Batch ℕ)). length us) (empty_by c.args.self.now.unsent c.is_empty.result c.if-not-is_empty.false c.is_empty.ensures.0) in
+    absurd (omega (arith, some, none))
 
 -- both, where memory was refused
 on_err_both : {T E P Q R : Type 0} (r : Result T E) → (P → Q → R) → OnErr r P → OnErr r Q → OnErr r R

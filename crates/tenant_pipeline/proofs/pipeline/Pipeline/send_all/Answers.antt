@@ -1,6 +1,7 @@
-use Rattle.std.proofs.Common.{◌≡◌, ◌<◌, ◌≤◌, ◌+◌, ◌-◌, ◌++◌, ◌∙◌, ℕ, List, length, sym, ap, subst, refl, arith, Some}
+use Rattle.std.proofs.Common.{◌≡◌, ◌<◌, ◌≤◌, ◌+◌, ◌-◌, ◌++◌, ◌∙◌, ℕ, List, length, max, sym, ap, subst, refl, arith, Some}
 use Rattle.std.proofs.lemmas.Result.{on_ok_weaker}
-use Rattle.send_queue.specs.Sender.{payload_bytes}
+use Rattle.std.specs.Result.{OnOk}
+use Rattle.send_queue.specs.Sender.{SenderData, payload_bytes}
 use Rattle.span_batcher.specs.Batches.{Batch}
 use Rattle.span_batcher.specs.Maps.{spans_of}
 use Rattle.tail_policy.specs.declared.note.TraceNote.{TraceNote}
@@ -38,6 +39,7 @@ loop-number-init c =
       weighed =
           let weigh = ap (λ (us : List (Batch ℕ)). payload_bytes (unsent_at p us)) c.requires.none in
           c.requires.none_weigh ∙ sym weigh;
+      sender = refl;
     }
 
 pub send_row-requires-clause-there : goal.send_row-requires-clause-there
@@ -111,6 +113,7 @@ loop-number-preserved c =
       back = λ start back. c.send_row.ensures.back start (inv.back start back);
       offers = c.send_row.ensures.offers;
       weighed = subst (λ (t : ℕ). IsWeighed (part t stores) c.send_row.new.leaving) tenant c.in_ok-send_row.ensures.weighed;
+      sender = c.send_row.ensures.sender ∙ inv.sender;
     }
 
 pub returns-in_err-send_row-clause-back : goal.returns-in_err-send_row-clause-back
@@ -180,6 +183,11 @@ returns-clause-gone c =
     let last = gone key in
     let none = ap (count key) (keys_end (policies_of own) p.rows c.loop-number.number own.rows.opened (omega (arith, opened))) in
     omega (arith, was, now, last, none)) c.write_first.ensures.gone
+
+pub returns-clause-first : goal.returns-clause-first
+returns-clause-first c =
+    let same : c.send_rest.new.self.sender ≡ c.args.self.now.sender = ap (λ (x : Pipeline). x.sender) c.send_rest.ensures.same ∙ c.loop-number.invariant.sender in
+    subst (λ (s : SenderData). OnOk c.write_first.result (length c.write_first.new.self.sender.queue ≤ max 1 (length s.queue))) same c.write_first.ensures.first
 
 pub returns-clause-back : goal.returns-clause-back
 returns-clause-back c = λ start back.

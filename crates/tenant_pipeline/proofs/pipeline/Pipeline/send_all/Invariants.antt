@@ -21,6 +21,7 @@ invariant-loop-number l = record {
   back : (start : Pipeline) → TakesBack l.fn.undo start l.fn.self → TakesBack l.undo start l.self;
   offers : l.undo.offers ≤ length l.self.sender.queue;
   weighed : IsWeighed (part_in l.fn.self l.stores) l.leaving;
+  sender : l.self.sender ≡ l.fn.self.sender;
 }
 
 abbrev pub decreases-loop-number : goal.decreases-loop-number

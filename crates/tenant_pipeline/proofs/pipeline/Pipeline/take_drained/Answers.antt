@@ -1,4 +1,5 @@
-use Rattle.std.proofs.Common.{◌≡◌, ◌∙◌, ℕ, sym, ap, subst}
+use Rattle.std.proofs.Common.{◌≡◌, ◌≤◌, ◌∙◌, ℕ, max, length, sym, ap, subst, arith, Result, Ok, Err}
+use Rattle.std.specs.Result.{OnOk, OnErr}
 use Rattle.std.proofs.lemmas.Result.{on_ok_weaker}
 use Rattle.send_retry.specs.Class.{AnswerData, answer_view}
 use Rattle.tenant_stores.specs.Part.{part}
@@ -9,7 +10,7 @@ use Rattle.tenant_pipeline.specs.Acts.{ActsAt}
 use Rattle.tenant_pipeline.specs.Invariant.{PipelineInvariantFrom}
 use Rattle.tenant_pipeline.specs.StateIn.{part_in, state_in, state_of}
 use Rattle.tenant_pipeline.specs.Unsent.{HandsOut, IsAhead}
-use Rattle.tenant_pipeline.proofs.Ahead.{Stepped, answers, hands_out, state_ahead}
+use Rattle.tenant_pipeline.proofs.Ahead.{Stepped, answered_keeps, answers, hands_out, state_ahead, turned_keeps}
 use Rattle.tenant_pipeline.proofs.Posting.{on_err_then}
 use Rattle.tenant_pipeline.proofs.pipeline.Pipeline.take_drained.Goals as goal
 
@@ -55,7 +56,30 @@ returns-in-Turn-clause-on_refusal c =
     subst (λ (t : ℕ). state_of new (part t last) ≡ state_of own p) (sym (ap (λ (o : Pipeline). o.tenant) ahead.same)) (state_ahead own new p q ahead) in
     on_err_then c.hand_out_next.result over c.hand_out_next.ensures.on_refusal
 
+-- by what it came to
+either : {T E P Q R : Type 0} (r : Result T E) → OnOk r P → OnErr r Q → (P → R) → (Q → R) → R
+either (Ok x) p q f g = f p
+either (Err x) p q f g = g q
+
+pub returns-in-Turn-clause-few : goal.returns-in-Turn-clause-few
+returns-in-Turn-clause-few c =
+    let own = c.args.self.now in
+    let new = c.hand_out_next.new.self in
+    let p = part_in own c.args.stores.now in
+    let q = part_in own c.hand_out_next.new.stores in
+    let handed : HandsOut c.args.moment own new p q → length new.sender.queue ≤ max 2 (length own.sender.queue) = λ h.
+    let less = turned_keeps c.args.moment h.middle new q h.sends in
+    let few = h.ahead.few in
+    omega (arith, less, few) in
+    either c.hand_out_next.result c.hand_out_next.ensures.on_success c.hand_out_next.ensures.on_refusal handed (λ (ahead : IsAhead own new p q). ahead.few)
+
 -- ---- a back end answers
+
+pub returns-in-Answer-clause-few : goal.returns-in-Answer-clause-few
+returns-in-Answer-clause-few c =
+    let own = c.args.self.now in
+    let same = answered_keeps c.args.moment c.in-Answer.ticket c.in-Answer.word (answer_view c.in-Answer.answer.now) own c.settle.new.self (part_in own c.args.stores.now) c.settle.ensures.sends in
+    omega (arith, same)
 
 pub returns-in-Answer-clause-on_success : goal.returns-in-Answer-clause-on_success
 returns-in-Answer-clause-on_success c =

@@ -29,4 +29,4 @@ returns-clause-ahead c =
     written_ahead own p q u rest sender us_is sender_is
     (λ n pending left held all. c.flush.ensures.store_invariant n pending left held (λ key. let k = ap (count key) c.keys.ensures in let a = all key in omega (arith, k, a)))
     (λ n pending left held shown all. c.flush.ensures.shows n pending left held shown (λ key. let k = ap (count key) c.keys.ensures in let a = all key in omega (arith, k, a)))
-    c.requires.invariant.whole.sound
+    c.requires.invariant.whole.sound (omega arith)
