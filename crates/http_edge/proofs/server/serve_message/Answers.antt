@@ -1,10 +1,10 @@
-use Rattle.std.proofs.Common.{◌≡◌, ◌++◌, Bool, cond, true, false, Ok, Some, subst, [], drop, refl, sym, ap, ◌∙◌, append-nil, arith}
+use Rattle.std.proofs.Common.{◌≡◌, ◌++◌, Bool, true, false, Ok, Some, subst, [], drop, refl, sym, ap, ◌∙◌, append-nil, arith}
 use Rattle.std.proofs.lemmas.Result.{err_from_is_err_and}
 use Rattle.http_edge.specs.Message.{chunked, closes, IsBroken, IsTooLong, LacksBody}
 use Rattle.http_edge.specs.Stages.{IsRead, frame_by, message_with}
 use Rattle.http_edge.specs.declared.body.BodyRead.TheVariants.{Whole}
 use Rattle.http_edge.specs.Talk.{Due, Ends, exchange_text, waits, refuses, refusing, closing, in_body, long_chunks, bad_chunks, interim_text, at_body}
-use Rattle.http_edge.specs.Reply.{continue_text, refusal_text}
+use Rattle.http_edge.specs.Reply.{refusal_text}
 use Rattle.http_line.proofs.Moved.{then_to}
 use Rattle.http_edge.proofs.Heads.{has_head_more, head_some}
 use Rattle.http_edge.proofs.Served.{cut_text, due_interim, due_body, due_reply, read_failed, write_failed, lacks_reply, may_interim, first_moves, all_moves, whole_message, message_kept, reply_whole, not_is, not_is_not}
