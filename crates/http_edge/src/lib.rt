@@ -3,7 +3,7 @@
 //! [`serve`] reads messages and writes a [`Handler`]'s replies; [`write_post`] writes a post to a back end, and
 //! [`read_answer`] reads what it answers. What is written and answered is settled by the bytes read, however they were
 //! cut ([`one_talk`], [`one_answer`]). [`Headers`] are the fields of a message, [`only_value`] says what stands in one
-//! of them, and [`MAX_BODY`] how long its body may be.
+//! of them, [`Single`] gathers it in a walk of them all, and [`MAX_BODY`] says how long a body may be.
 //!
 //! Rules are those of RFC 9110 and RFC 9112, with this project's own choices where they leave one (docs/HTTP.md).
 //! Heads, the lines of chunks and trailers are read by `httparse`, and an answer's chunks by `http1`, which also says
@@ -34,5 +34,5 @@ pub use crate::message::{Allow, Handler, HttpMessage, MediaType, RefusalForm, Re
 pub use crate::post::write_post;
 pub use crate::reply::reply_bytes;
 pub use crate::server::{connection_buffer, serve};
-pub use crate::single::only_value;
+pub use crate::single::{Single, only_value};
 pub use crate::wire::EdgeFault;

@@ -9,7 +9,7 @@ use http1::text::eq_ignore_case;
 
 /// The value of a field that is to stand at most once.
 #[derive(Clone, Copy, Drop)]
-pub(crate) enum Single<'a> {
+pub enum Single<'a> {
     Absent,
     One(&'a [u8]),
     Repeated,
@@ -17,7 +17,8 @@ pub(crate) enum Single<'a> {
 
 impl<'a> Single<'a> {
     /// What stands under the wanted name with one field more, whose value counts where it has that name, in any case.
-    pub(crate) fn and(self, wanted: &[u8], name: &[u8], value: &'a [u8]) -> Single<'a>
+    #[inline]
+    pub fn and(self, wanted: &[u8], name: &[u8], value: &'a [u8]) -> Single<'a>
         ensures { (before : List (List ℕ × List ℕ)) → single_of self.entry ≡ field wanted.now before
             → single_of result ≡ field wanted.now (before ++ (name.now, value.now) ∷ []) }
     {
@@ -29,6 +30,7 @@ impl<'a> Single<'a> {
     }
 
     /// What stands there with one value more.
+    #[inline]
     fn add(self, value: &'a [u8]) -> Single<'a>
         ensures { (before : List (List ℕ)) → single_of self.entry ≡ single before
             → single_of result ≡ single (before ++ value.now ∷ []) }
@@ -41,7 +43,8 @@ impl<'a> Single<'a> {
     }
 
     /// The value, where there is exactly one.
-    fn only(self) -> Option<&'a [u8]>
+    #[inline]
+    pub fn only(self) -> Option<&'a [u8]>
         ensures { option_copied result ≡ only (single_of self.entry) }
     {
         match self {
