@@ -135,9 +135,9 @@ pub fn prepare<R: Threads + Sync>(
     )
 }
 
-/// The same for who prepares one body after another: no digest is made of a text that the body before had at its first
-/// spans too. What is prepared doesn't depend on what is remembered of that, also where it was another tenant's: a text
-/// is shared only where it has the same bytes, so nothing is told of it.
+/// The same for who prepares one body after another: no digest is made of those texts round the body's first spans
+/// that are remembered of a body before ([`RecentTexts`]). What is prepared tells nothing of what is remembered, also
+/// where that is another tenant's: a text is shared only where it has the same bytes.
 pub fn prepare_next<R: Threads + Sync>(
     rt: &R,
     alloc: Global,

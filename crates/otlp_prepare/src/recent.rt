@@ -6,9 +6,9 @@ use std::alloc::Global;
 /// The longest text that is remembered, in bytes. Those of the resources and scopes of most senders are shorter.
 const LONGEST: usize = 4_096;
 
-/// What stood round the first spans of the latest body, for who prepares one body after another: the bodies of one
-/// sender have the same resource and scope again and again. The texts are copies, of at most 4,096 bytes each, so that
-/// no body stays for them.
+/// What stood round the first spans of the latest body that had such texts, none of them too long, for who prepares one
+/// body after another: the bodies of one sender have the same resource and scope again and again. The texts are copies,
+/// of at most 4,096 bytes each, so that no body stays for them.
 #[derive(Drop)]
 pub struct RecentTexts {
     first: Option<SpanOrigin>,

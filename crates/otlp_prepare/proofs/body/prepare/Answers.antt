@@ -1,4 +1,4 @@
-use Rattle.std.proofs.Common.{◌≡◌, ℕ, List, subst}
+use Rattle.std.proofs.Common.{ℕ, List, subst}
 use Rattle.std.specs.Prelude.{IfOk}
 use Rattle.tail_settings.specs.Section.{section_view}
 use Rattle.otlp_prepare.specs.Prepared.{IsPrepared, PreparesValue, NamesFault}
