@@ -22,7 +22,7 @@ use text_slice::TextSlice;
 /// Posts a body that came at the moment `now`, in milliseconds, to the shard of the tenant with this number and
 /// section: a body without a value is no step, and any other is one. Its notes are made before, in at most `parts`
 /// threads, this one among them, which `threads` starts; then one of the tenant's gates is passed, for the step alone.
-/// No digest is made of a text that the body before had too, by what is remembered of that.
+/// No digest is made of texts that are remembered of a body before.
 /// A 503 without a body says that memory was refused; whether the step was made then is for the caller to know.
 pub fn post_body<T: Threads + Sync, R: Wait>(
     threads: &T,
