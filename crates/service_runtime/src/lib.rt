@@ -9,9 +9,9 @@
 //! out of its text ([`number_behind`]).
 //!
 //! It calls no shard, of which it knows the number alone, and knows nothing of tenants' settings or of what becomes of
-//! a message. It stands on `export_edge` and `job_lane` for beats and jobs, on `http_edge`, `http_line` and `http1` for
-//! messages and connections, on `admin_pages` for what figures are and how an answer is spelled, and on `send_retry`
-//! for answers. The rules are this project's own, but for those of HTTP that `specs/` name.
+//! a message. It stands on `export_edge` and `job_lane` for beats and jobs, on `http_edge`, `http_line`, `http1` and
+//! `httparse` for messages and connections, on `admin_pages` for what figures are and how an answer is spelled, and on
+//! `send_retry` for answers. The rules are this project's own, but for those of HTTP that `specs/` name.
 #![tactic(auto)]
 
 ghost use Rattle.service_runtime.specs.BodyMemory.{CountsCoverBodies};
