@@ -1,5 +1,5 @@
-use Rattle.std.proofs.Common.{rules, arith, ◌≡◌, ◌-◌, ◌<◌, ◌^◌, ◌++◌, ℕ, Bool, true, [], Option, Some, option_map, Ok, length, sym, subst}
-use Rattle.pb_wire.specs.Grammar.{Entry, entry}
+use Rattle.std.proofs.Common.{rules, arith, ◌≡◌, ◌-◌, ◌<◌, ◌^◌, ◌++◌, ℕ, Bool, true, [], Some, option_map, Ok, length, sym, subst}
+use Rattle.pb_wire.specs.Grammar.{entry}
 use Rattle.otlp_read.specs.AnyValue.{no_value, no_key_value, any_step_in}
 use Rattle.otlp_read.specs.Nested.{known_of_key_value}
 use Rattle.otlp_read.specs.Walk.{walk}
