@@ -2,4 +2,4 @@ mod Texts
 mod Names
 mod Plain
 mod Cases
-pub mod Typed
+pub mod Usual

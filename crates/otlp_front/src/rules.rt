@@ -1,17 +1,19 @@
 //! The rules, in their order.
 
-ghost use Rattle.std.specs.Prelude.{◌≡◌, Some};
+ghost use Rattle.std.specs.Prelude.{◌≡◌, option_and_then};
 ghost use Rattle.http_edge.specs.Seen.{seen};
+ghost use Rattle.http_edge.specs.Fields.{only};
+ghost use Rattle.http_edge.specs.Stages.{single_of};
 ghost use Rattle.tail_settings.specs.Settings.{settings_view};
 ghost use Rattle.otlp_front.specs.Route.{names_in, is_post, tenant_in, route_to, route_of, number_of};
 ghost use Rattle.otlp_front.specs.Seen.{route_by};
 
 use crate::destination::Route;
-use crate::fields::{are_plain, has_protobuf};
+use crate::fields::{has_protobuf, post_fields};
 use crate::refusal::RouteRefusal;
 use crate::target::is_for_traces;
 use http::Method;
-use http_edge::{Headers, HttpMessage, only_value};
+use http_edge::{Headers, HttpMessage, Single};
 use std::str;
 use tail_settings::Settings;
 
@@ -28,10 +30,7 @@ pub fn route(settings: &Settings, message: &HttpMessage) -> Route
     if !is_post(&message.method) {
         return Route::Refuse(RouteRefusal::MethodNotAllowed);
     }
-    let Some(tenant) = named_tenant(settings, &message.headers) else {
-        return Route::Refuse(RouteRefusal::UnknownTenant);
-    };
-    route_to(&message.headers, tenant)
+    by_fields(settings, &message.headers)
 }
 
 fn is_post(method: &Method) -> bool
@@ -40,12 +39,30 @@ fn is_post(method: &Method) -> bool
     method.as_str() == "POST"
 }
 
-/// The number of the tenant that the message names.
-fn named_tenant(settings: &Settings, headers: &Headers) -> Option<u32>
-    ensures { result ≡ tenant_in (names_in (settings_view settings.now)) headers.now }
+/// Where a post goes, by what its fields say.
+fn by_fields(settings: &Settings, headers: &Headers) -> Route
+    ensures { route_by result ≡ route_to headers.now
+        (tenant_in (names_in (settings_view settings.now)) headers.now) }
 {
-    let name = only_value(headers, settings.global.tenant_header.as_bytes())?;
-    number_of(settings, name)
+    let fields = post_fields(headers, settings.global.tenant_header.as_bytes());
+    let Some(tenant) = named_tenant(settings, fields.tenant) else {
+        return Route::Refuse(RouteRefusal::UnknownTenant);
+    };
+    if !has_protobuf(fields.content_type) {
+        return Route::Refuse(RouteRefusal::UnsupportedType);
+    }
+    if !fields.plain {
+        return Route::Refuse(RouteRefusal::UnsupportedEncoding);
+    }
+    Route::Post { tenant }
+}
+
+/// The number of the tenant that this field names.
+fn named_tenant(settings: &Settings, field: Single<'_>) -> Option<u32>
+    ensures { result ≡ option_and_then
+        (number_of (names_in (settings_view settings.now)).tenants) (only (single_of field.entry)) }
+{
+    number_of(settings, field.only()?)
 }
 
 /// The number of the tenant with this name. Names are texts, so that bytes that are none name nobody.
@@ -56,17 +73,4 @@ fn number_of(settings: &Settings, name: &[u8]) -> Option<u32>
         Ok(name) => settings.number(name),
         Err(_) => None,
     }
-}
-
-/// Where a post to this tenant goes, by what it says of its content.
-fn route_to(headers: &Headers, tenant: u32) -> Route
-    ensures { route_by result ≡ route_to headers.now (Some tenant) }
-{
-    if !has_protobuf(headers) {
-        return Route::Refuse(RouteRefusal::UnsupportedType);
-    }
-    if !are_plain(headers) {
-        return Route::Refuse(RouteRefusal::UnsupportedEncoding);
-    }
-    Route::Post { tenant }
 }

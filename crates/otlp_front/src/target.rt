@@ -10,7 +10,7 @@ use http1::text::eq_ignore_case;
 pub(crate) fn is_for_traces(target: &[u8]) -> bool
     ensures { result ≡ is_for_traces target.now }
 {
-    path(target) == b"/v1/traces".as_slice()
+    target == b"/v1/traces".as_slice() || path(target) == b"/v1/traces".as_slice()
 }
 
 /// The path of a target: up to its query, and after the host of a whole URI.
