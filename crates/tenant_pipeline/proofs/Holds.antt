@@ -227,6 +227,10 @@ module _ (moment : ℕ) (journal : Journal) (origins : List OriginTexts) (held0 
     same : view_in own q ≡ view_in own p
     same = shows (counts_in own) pending [] own.batcher.spans sound0 (λ key. let both = count-append key journal.undo.gone.items own.batcher.spans in omega (arith, both))
 
+    -- the rules see no change
+    pub state_held : written_state_of own q ≡ written_state_of own p
+    state_held = ap (state_by own) same
+
     holding : IsPosting moment journal (held_keys held1) own q
     holding = record {
       holds = held_over moment own.rows.swept journal.undo.gone.items journal.undo.gone.items (held_keys held0) (held_keys held1) own p q next.posting.holds sound1 same;
@@ -276,9 +280,8 @@ module _ (moment : ℕ) (journal : Journal) (origins : List OriginTexts) (held0 
             CameNext (come moment (prepared.arrival_in origins span)) moment journal' origins held1 own own' p r
         came_held journal' own' r came =
             let here = all (counts_in own) pending [] sound0 in
-            let state : written_state_of own q ≡ written_state_of own p = ap (state_by own) same in
             record {
-              rules = came.rules ∙ (ap (λ (a : Arrival). come moment a (written_state_of own q)) arrival_same ∙ ap (come moment (prepared.arrival_in origins span)) state);
+              rules = came.rules ∙ (ap (λ (a : Arrival). come moment a (written_state_of own q)) arrival_same ∙ ap (come moment (prepared.arrival_in origins span)) state_held);
               posting = came.posting (held_keys held1) holding;
               held_at = record {
                 many = here.many;

@@ -56,7 +56,7 @@ pub struct LastRow {
 
 impl Pipeline {
     /// Where a trace has its latest row.
-    pub(crate) fn trace_state(&self, stores: &Stores<TraceNote>, trace: [u8; 16]) -> TraceState
+    fn trace_state(&self, stores: &Stores<TraceNote>, trace: [u8; 16]) -> TraceState
         requires invariant { (reached : ℕ) × (gone held : List ℕ)
             × PipelineInvariantAt reached gone held self.now (part_in self.now stores.now) }
         ensures state { IsTraceState trace result (written_state_in self.now stores.now) }
@@ -78,7 +78,7 @@ impl Pipeline {
     }
 
     /// Where a trace has its latest row, which may be the last span's.
-    fn known_state(
+    pub(crate) fn known_state(
         &self,
         stores: &Stores<TraceNote>,
         last: Option<LastRow>,
@@ -136,8 +136,9 @@ impl Pipeline {
         places.undecided + places.pending < self.section.max_spans as u64
     }
 
-    /// A span of a post comes at a moment, in milliseconds, and is taken where there is room. The texts of its origin
-    /// are held at these keys, which it shares. What it changes is written down, also where memory is refused.
+    /// A span of a post comes at a moment, in milliseconds, for which there is room, while its trace is in this state.
+    /// The texts of its origin are held at these keys, which it shares. What it changes is written down, also where
+    /// memory is refused.
     pub(crate) fn admit(
         &mut self,
         stores: &mut Stores<TraceNote>,
@@ -146,12 +147,18 @@ impl Pipeline {
         moment: u64,
         keys: &SharedKeys,
         span: &NotedSpan,
+        state: TraceState,
     ) -> Result<(), AllocError>
         requires coming { (held : List ℕ)
             × IsComing moment journal.old keys.now.keys span.now held self.old
             (part_in self.old stores.old) }
         requires fits { counted self.old.ledger + 1 ≤ most_counted }
         requires last { IsLast last.old self.old (part_in self.old stores.old) }
+        requires budget { self.old.ledger.places.undecided + self.old.ledger.places.pending
+            < self.old.section.max_spans }
+        requires state { IsTraceState span.now.trace state (written_state_in self.old stores.old) }
+        requires number { IsTraceStateAt span.now.trace state self.old
+            (part_in self.old stores.old) }
         ensures came { OnOk result (CameIn
             (come moment (arrival_at (part_in self.old stores.old) keys.now.keys span.now.text))
             moment journal.old journal.new self.old self.new stores.old stores.new) }
@@ -163,11 +170,8 @@ impl Pipeline {
         ensures others_unchanged { OthersUnchanged self.old.tenant stores.old stores.new }
         ensures same { IsSameTenant self.old self.new }
     {
-        if !self.has_room() {
-            return Ok(());
-        }
         journal.placed.reserve(1)?;
-        match self.known_state(stores, *last, span.trace) {
+        match state {
             TraceState::Waits(number) => {
                 self.join(stores, journal, last, number, moment, keys, span)
             }

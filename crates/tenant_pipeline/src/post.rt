@@ -1,6 +1,6 @@
 //! The spans of a body come, all of them or none.
 
-ghost use Rattle.std.specs.Prelude.{◌≡◌, ◌<◌, ◌≤◌, ◌+◌, ◌-◌, ◌++◌, [], ℕ, List, IfOk, IfSome, OnOk, OnErr, length, nat_lt, replicate};
+ghost use Rattle.std.specs.Prelude.{◌≡◌, ◌<◌, ◌≤◌, ◌+◌, ◌-◌, ◌++◌, [], ℕ, List, IfOk, IfSome, OnOk, OnErr, length, replicate};
 ghost use Rattle.drop_ledger.specs.Ledger.{counted, most_counted};
 ghost use Rattle.span_batcher.specs.State.{next_due, IsAfter};
 ghost use Rattle.tail_policy.specs.declared.note.TraceNote.{TraceNote as Note};
@@ -16,7 +16,7 @@ ghost use Rattle.otlp_prepare.specs.Prepared.{AreReady};
 ghost use Rattle.tenant_pipeline.specs.Prepared.{arrivals_of};
 ghost use Rattle.tenant_pipeline.specs.StateIn.{part_in, policies_of, written_state_in};
 ghost use Rattle.tenant_pipeline.specs.Invariant.{PipelineInvariantAt, IsSwept};
-ghost use Rattle.tenant_pipeline.specs.Posts.{all_keys, all_text_keys, held_keys, keys_at, keys_if, place_of, AreHeldAt, CameNext, HoldsMore, IsFull, IsLast, IsLike, IsNext, IsPlaceLike, IsPosting, IsTaken, IsSameTenant, ShowsSameLike, StaysWrittenWith, verdict_after, WhereLike};
+ghost use Rattle.tenant_pipeline.specs.Posts.{all_keys, all_text_keys, held_keys, keys_at, keys_if, place_of, AreHeldAt, CameNext, HoldsMore, IsFull, IsLast, IsLike, IsNext, IsPlaceLike, IsPosting, IsTaken, IsTraceState, IsTraceStateAt, IsSameTenant, ShowsSameLike, StaysWrittenWith, verdict_after, WhereLike};
 ghost use Rattle.tenant_pipeline.specs.Acts.{ActsAt, IsPosted, at};
 ghost use Rattle.tenant_stores.specs.Promises.{OthersUnchanged, TextsStay, WhereHeld, ShowsSameHeld};
 ghost use Rattle.tenant_stores.specs.Shows.{AreAmong};
@@ -138,14 +138,6 @@ impl HeldOrigins {
             keys: Vec::new(alloc),
             last: 0,
         })
-    }
-
-    /// Whether the texts of an origin are.
-    fn has(&self, index: usize) -> bool
-        requires within { index < length self.now.places.items }
-        ensures { result ≡ nat_lt 0 (place_of self.now index) }
-    {
-        self.places[index] > 0
     }
 
     /// Where the keys of the origin that was held last stand, if it is of the resource spans with this index of their
@@ -411,10 +403,7 @@ impl Pipeline {
         if !self.has_room() {
             return Ok(());
         }
-        if held.has(span.origin) {
-            return self.admit_with_texts(stores, journal, last, moment, origins, held, span);
-        }
-        match self.trace_state(stores, span.trace) {
+        match self.known_state(stores, *last, span.trace) {
             TraceState::Decided(false) => {
                 *last = None;
                 self.count_unsampled();
@@ -424,12 +413,14 @@ impl Pipeline {
                 *last = None;
                 self.hit_unsampled(span.trace)
             }
-            _ => self.admit_with_texts(stores, journal, last, moment, origins, held, span),
+            state => {
+                self.admit_with_texts(stores, journal, last, moment, origins, held, span, state)
+            }
         }
     }
 
-    /// A span of a body comes at a moment, in milliseconds, and is taken where there is room. The texts of its origin
-    /// are held from now on.
+    /// A span of a body comes at a moment, in milliseconds, for which there is room, while its trace is in this state.
+    /// The texts of its origin are held from now on.
     fn admit_with_texts(
         &mut self,
         stores: &mut Stores<TraceNote>,
@@ -439,11 +430,17 @@ impl Pipeline {
         origins: &[SpanOrigin],
         held: &mut HeldOrigins,
         span: &NotedSpan,
+        state: TraceState,
     ) -> Result<(), AllocError>
         requires next { IsNext moment journal.old origins.now held.old span.now self.old
             (part_in self.old stores.old) }
         requires fits { counted self.old.ledger + 1 ≤ most_counted }
         requires last { IsLast last.old self.old (part_in self.old stores.old) }
+        requires budget { self.old.ledger.places.undecided + self.old.ledger.places.pending
+            < self.old.section.max_spans }
+        requires state { IsTraceState span.now.trace state (written_state_in self.old stores.old) }
+        requires number { IsTraceStateAt span.now.trace state self.old
+            (part_in self.old stores.old) }
         ensures came { OnOk result (CameNext (come moment (arrival_in origins.now span.now)) moment
             journal.new origins.now held.new self.old self.new (part_in self.old stores.old)
             (part_in self.new stores.new)) }
@@ -454,7 +451,15 @@ impl Pipeline {
         ensures same { IsSameTenant self.old self.new }
     {
         let place = held.hold(self.alloc, stores, self.tenant, origins, span.origin)?;
-        self.admit(stores, journal, last, moment, &held.keys[place], span)
+        self.admit(
+            stores,
+            journal,
+            last,
+            moment,
+            &held.keys[place],
+            span,
+            state,
+        )
     }
 
     /// The reply to a body with so many valid spans, of which so many were taken, and so many others. What was left out

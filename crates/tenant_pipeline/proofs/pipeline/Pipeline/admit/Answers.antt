@@ -7,13 +7,14 @@ use Rattle.drop_ledger.specs.Ledger.{moved, taken}
 use Rattle.drop_ledger.specs.declared.places.Place.TheVariants.{Undecided, NotSampled}
 use Rattle.tenant_stores.specs.Part.{part}
 use Rattle.tenant_rules.specs.Arrivals.{trace_of}
-use Rattle.tenant_rules.specs.Machine.{cached_or_opens, come, counted_in, evicted, has_row, held, joins, opens, sampled_in}
+use Rattle.tenant_rules.specs.Machine.{cached_or_opens, come, counted_in, evicted, has_row, joins, opens, sampled_in}
 use Rattle.tenant_rules.specs.State.{State}
 use Rattle.tenant_rules.specs.Timers.{grouped, recount}
 use Rattle.tenant_pipeline.specs.declared.journal.Journal.{Journal}
 use Rattle.tenant_pipeline.specs.declared.pipeline.Pipeline.{Pipeline}
+use Rattle.tenant_pipeline.specs.declared.place.TraceState.{TraceState}
 use Rattle.tenant_pipeline.specs.StateIn.{part_in, written_state_of}
-use Rattle.tenant_pipeline.specs.Posts.{arrival_at, Came, IsSameTenant, IsWritten}
+use Rattle.tenant_pipeline.specs.Posts.{arrival_at, Came, IsSameTenant, IsTraceState, IsWritten}
 use Rattle.tenant_pipeline.proofs.Holds.{recounted}
 use Rattle.tenant_pipeline.proofs.Late.{lost_came}
 use Rattle.tenant_pipeline.proofs.Placing.{came_by, written_same}
@@ -29,9 +30,10 @@ returns-in-Waits-clause-came c =
     let x = arrival_at p c.args.keys.now.keys c.args.span.now.text in
     let journal = c.args.journal.now in
     let ready : Journal = record { placed = c.reserve.new.self; undo = journal.undo; hits = journal.hits } in
-    let room : nat_lt (held s) s.section.max_spans ≡ true = sym c.has_room.ensures ∙ c.if-not-has_room.false in
+    let budget = c.requires.budget in
+    let room : nat_lt (own.ledger.places.undecided + own.ledger.places.pending) own.section.max_spans ≡ true = grind (arith, nat_tests, budget) in
     let trace = c.requires.coming.1.trace in
-    let has : has_row (trace_of x) s.waiting ≡ true = ap (λ (t : List ℕ). has_row t s.waiting) (sym trace) ∙ c.in-Waits.ensures.state in
+    let has : has_row (trace_of x) s.waiting ≡ true = ap (λ (t : List ℕ). has_row t s.waiting) (sym trace) ∙ subst (λ (its_state : TraceState). IsTraceState c.args.span.now.trace its_state s) c.in-Waits.is c.requires.state in
     on_ok_weaker c.join.result
     (came_by (λ (t : State). joins x (counted_in t)) (come m x) m ready journal c.join.new.journal own c.join.new.self p (part_in c.join.new.self c.join.new.stores) (it_joins m x s room has) refl)
     c.join.ensures.came
@@ -53,9 +55,10 @@ returns-in-Decided-true-clause-came c =
     let x = arrival_at p c.args.keys.now.keys c.args.span.now.text in
     let journal = c.args.journal.now in
     let ready : Journal = record { placed = c.reserve.new.self; undo = journal.undo; hits = journal.hits } in
-    let room : nat_lt (held s) s.section.max_spans ≡ true = sym c.has_room.ensures ∙ c.if-not-has_room.false in
+    let budget = c.requires.budget in
+    let room : nat_lt (own.ledger.places.undecided + own.ledger.places.pending) own.section.max_spans ≡ true = grind (arith, nat_tests, budget) in
     let trace = c.requires.coming.1.trace in
-    let its_state = c.in-Decided-true.ensures.state in
+    let its_state = subst (λ (its_state : TraceState). IsTraceState c.args.span.now.trace its_state s) c.in-Decided-true.is c.requires.state in
     let none : has_row (trace_of x) s.waiting ≡ false = ap (λ (t : List ℕ). has_row t s.waiting) (sym trace) ∙ its_state.0 in
     let sampled : sampled_in (trace_of x) s.settled ≡ Some true =
     ap (λ (t : List ℕ). sampled_in t s.settled) (sym trace) ∙ (its_state.1 ∙ ap (λ (b : Bool). Some b) c.in-Decided-true.field-0-test) in
@@ -80,11 +83,10 @@ returns-in-Decided-false-clause-came c =
     let x = arrival_at p c.args.keys.now.keys c.args.span.now.text in
     let journal = c.args.journal.now in
     let ready : Journal = record { placed = c.reserve.new.self; undo = journal.undo; hits = journal.hits } in
-    let room : nat_lt (held s) s.section.max_spans ≡ true = sym c.has_room.ensures ∙ c.if-not-has_room.false in
-    let test : nat_lt (own.ledger.places.undecided + own.ledger.places.pending) own.section.max_spans ≡ true = room in
-    let budget : own.ledger.places.undecided + own.ledger.places.pending < own.section.max_spans = grind (arith, nat_tests, test) in
+    let budget = c.requires.budget in
+    let room : nat_lt (own.ledger.places.undecided + own.ledger.places.pending) own.section.max_spans ≡ true = grind (arith, nat_tests, budget) in
     let trace = c.requires.coming.1.trace in
-    let its_state = c.in-Decided-false.ensures.state in
+    let its_state = subst (λ (its_state : TraceState). IsTraceState c.args.span.now.trace its_state s) c.in-Decided-false.is c.requires.state in
     let none : has_row (trace_of x) s.waiting ≡ false = ap (λ (t : List ℕ). has_row t s.waiting) (sym trace) ∙ its_state.0 in
     let sampled : sampled_in (trace_of x) s.settled ≡ Some false =
     ap (λ (t : List ℕ). sampled_in t s.settled) (sym trace) ∙ (its_state.1 ∙ ap (λ (b : Bool). Some b) c.in-Decided-false.field-0-test) in
@@ -109,7 +111,10 @@ returns-in-Decided-false-clause-same c =
     subst (λ (o : Pipeline). IsSameTenant own o) (sym c.count_unsampled.ensures) is
 
 pub hit-requires-clause-known : goal.hit-requires-clause-known
-hit-requires-clause-known c = c.in-Cached.ensures.state.2
+hit-requires-clause-known c =
+    let s = written_state_of c.args.self.now (part c.args.self.now.tenant c.args.stores.now) in
+    let its_state = subst (λ (its_state : TraceState). IsTraceState c.args.span.now.trace its_state s) c.in-Cached.is c.requires.state in
+    its_state.2
 
 pub returns-in-Cached-clause-came : goal.returns-in-Cached-clause-came
 returns-in-Cached-clause-came c =
@@ -120,9 +125,10 @@ returns-in-Cached-clause-came c =
     let x = arrival_at p c.args.keys.now.keys c.args.span.now.text in
     let journal = c.args.journal.now in
     let ready : Journal = record { placed = c.reserve.new.self; undo = journal.undo; hits = journal.hits } in
-    let room : nat_lt (held s) s.section.max_spans ≡ true = sym c.has_room.ensures ∙ c.if-not-has_room.false in
+    let budget = c.requires.budget in
+    let room : nat_lt (own.ledger.places.undecided + own.ledger.places.pending) own.section.max_spans ≡ true = grind (arith, nat_tests, budget) in
     let trace = c.requires.coming.1.trace in
-    let its_state = c.in-Cached.ensures.state in
+    let its_state = subst (λ (its_state : TraceState). IsTraceState c.args.span.now.trace its_state s) c.in-Cached.is c.requires.state in
     let b = c.in-Cached.sampled in
     let none : has_row (trace_of x) s.waiting ≡ false = ap (λ (t : List ℕ). has_row t s.waiting) (sym trace) ∙ its_state.0 in
     let sampled : sampled_in (trace_of x) s.settled ≡ None = ap (λ (t : List ℕ). sampled_in t s.settled) (sym trace) ∙ its_state.1 in
@@ -148,9 +154,10 @@ returns-in-Nowhere-clause-came c =
     let x = arrival_at p c.args.keys.now.keys c.args.span.now.text in
     let journal = c.args.journal.now in
     let ready : Journal = record { placed = c.reserve.new.self; undo = journal.undo; hits = journal.hits } in
-    let room : nat_lt (held s) s.section.max_spans ≡ true = sym c.has_room.ensures ∙ c.if-not-has_room.false in
+    let budget = c.requires.budget in
+    let room : nat_lt (own.ledger.places.undecided + own.ledger.places.pending) own.section.max_spans ≡ true = grind (arith, nat_tests, budget) in
     let trace = c.requires.coming.1.trace in
-    let its_state = c.in-Nowhere.ensures.state in
+    let its_state = subst (λ (its_state : TraceState). IsTraceState c.args.span.now.trace its_state s) c.in-Nowhere.is c.requires.state in
     let none : has_row (trace_of x) s.waiting ≡ false = ap (λ (t : List ℕ). has_row t s.waiting) (sym trace) ∙ its_state.0 in
     let sampled : sampled_in (trace_of x) s.settled ≡ None = ap (λ (t : List ℕ). sampled_in t s.settled) (sym trace) ∙ its_state.1 in
     let new : found (trace_of x) s.caches ≡ None = ap (λ (t : List ℕ). found t s.caches) (sym trace) ∙ its_state.2 in

@@ -24,11 +24,6 @@ pub returns-then-not-has_room-clause-came : goal.returns-then-not-has_room-claus
 returns-then-not-has_room-clause-came c =
     no_room c.args.moment c.args.origins.now c.args.journal.now c.args.held.now c.args.span.now c.args.self.now (part_in c.args.self.now c.args.stores.now) c.requires.next (sym c.has_room.ensures ∙ c.if-not-has_room.true)
 
-pub returns-then-has-clause-full : goal.returns-then-has-clause-full
-returns-then-has-clause-full c = λ full.
-    let contrary : true ≡ false = sym c.if-not-has_room.false ∙ (c.has_room.ensures ∙ full) in
-    cc
-
 pub returns-in-Decided-false-clause-full : goal.returns-in-Decided-false-clause-full
 returns-in-Decided-false-clause-full c = λ full.
     let contrary : true ≡ false = sym c.if-not-has_room.false ∙ (c.has_room.ensures ∙ full) in
@@ -43,12 +38,6 @@ pub returns-in_default-clause-full : goal.returns-in_default-clause-full
 returns-in_default-clause-full c = λ full.
     let contrary : true ≡ false = sym c.if-not-has_room.false ∙ (c.has_room.ensures ∙ full) in
     cc
-
-pub has-requires : goal.has-requires
-has-requires c =
-    let many = c.requires.next.held_at.many in
-    let within = c.requires.next.ready.within in
-    omega (arith, many, within)
 
 -- ---- its trace was decided, and isn't sampled
 

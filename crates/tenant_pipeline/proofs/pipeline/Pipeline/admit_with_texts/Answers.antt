@@ -1,10 +1,11 @@
 use Rattle.std.proofs.Common.{◌++◌, ℕ, List, [], append-nil, subst, sym}
 use Rattle.std.proofs.lemmas.Result.{on_ok_weaker}
 use Rattle.tenant_stores.specs.Invariant.{StoreInvariant}
-use Rattle.tenant_pipeline.specs.Posts.{held_keys}
+use Rattle.tenant_rules.specs.State.{State}
+use Rattle.tenant_pipeline.specs.Posts.{held_keys, IsTraceState}
 use Rattle.tenant_pipeline.specs.StateIn.{counts_in, part_in}
-use Rattle.tenant_pipeline.proofs.Holds.{came_held, is_coming_held, written_kept, written_more, written_on}
-use Rattle.tenant_pipeline.proofs.Lasts.{last_held}
+use Rattle.tenant_pipeline.proofs.Holds.{came_held, is_coming_held, state_held, written_kept, written_more, written_on}
+use Rattle.tenant_pipeline.proofs.Lasts.{last_held, number_held}
 use Rattle.tenant_pipeline.proofs.pipeline.Pipeline.admit_with_texts.Goals as goal
 
 pub returns-in_err-place-clause-written : goal.returns-in_err-place-clause-written
@@ -34,6 +35,24 @@ admit-requires-clause-last c =
     let sound = subst (λ (ks : List ℕ). StoreInvariant (counts_in own) pending ks p) (sym (append-nil (held_keys c.args.held.now))) c.requires.next.posting.holds.sound in
     let more = c.in_ok-place.ensures.uses_added (counts_in own) pending [] sound in
     last_held c.args.last.now own more.more p (part_in own c.hold.new.stores) more.holds c.requires.last
+
+pub admit-requires-clause-state : goal.admit-requires-clause-state
+admit-requires-clause-state c =
+    let own = c.args.self.now in
+    let made = c.in_ok-place.ensures in
+    subst (λ (s : State). IsTraceState c.args.span.now.trace c.args.state s)
+    (sym (state_held c.args.moment c.args.journal.now c.args.origins.now c.args.held.now c.hold.new.self c.args.span.now own (part_in own c.args.stores.now) (part_in own c.hold.new.stores) c.requires.next
+    made.uses_added made.store_invariant made.shows))
+    c.requires.state
+
+pub admit-requires-clause-number : goal.admit-requires-clause-number
+admit-requires-clause-number c =
+    let own = c.args.self.now in
+    let p = part_in own c.args.stores.now in
+    let pending = c.args.journal.now.undo.gone.items ++ own.batcher.spans in
+    let sound = subst (λ (ks : List ℕ). StoreInvariant (counts_in own) pending ks p) (sym (append-nil (held_keys c.args.held.now))) c.requires.next.posting.holds.sound in
+    let more = c.in_ok-place.ensures.uses_added (counts_in own) pending [] sound in
+    number_held c.args.span.now.trace c.args.state own more.more p (part_in own c.hold.new.stores) more.holds c.requires.number
 
 pub returns-clause-came : goal.returns-clause-came
 returns-clause-came c =
