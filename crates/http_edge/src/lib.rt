@@ -2,8 +2,9 @@
 //!
 //! [`serve`] reads messages and writes a [`Handler`]'s replies; [`write_post`] writes a post to a back end, and
 //! [`read_answer`] reads what it answers. What is written and answered is settled by the bytes read, however they were
-//! cut ([`one_talk`], [`one_answer`]). [`Headers`] are the fields of a message, [`only_value`] says what stands in one
-//! of them, [`Single`] gathers it in a walk of them all, and [`MAX_BODY`] says how long a body may be.
+//! cut ([`one_talk`], [`one_answer`]), and so is which messages a handler answers, whatever it answers
+//! ([`one_reading`]). [`Headers`] are the fields of a message, [`only_value`] says what stands in one of them,
+//! [`Single`] gathers it in a walk of them all, and [`MAX_BODY`] says how long a body may be.
 //!
 //! Rules are those of RFC 9110 and RFC 9112, with this project's own choices where they leave one (docs/HTTP.md).
 //! Heads, the lines of chunks and trailers are read by `httparse`, and an answer's chunks by `http1`, which also says
@@ -30,7 +31,9 @@ mod wire;
 pub use crate::answer::{one_answer, read_answer};
 pub use crate::headers::Headers;
 pub use crate::limits::MAX_BODY;
-pub use crate::message::{Allow, Handler, HttpMessage, MediaType, RefusalForm, Reply, one_talk};
+pub use crate::message::{
+    Allow, Handler, HttpMessage, MediaType, RefusalForm, Reply, one_reading, one_talk,
+};
 pub use crate::post::write_post;
 pub use crate::reply::reply_bytes;
 pub use crate::server::{connection_buffer, serve};
