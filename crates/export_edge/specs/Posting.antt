@@ -4,7 +4,7 @@ use Rattle.std.specs.Prelude.{◌≡◌, ◌≢◌, ℕ, nat_lt, List, [], ◌++
 use Rattle.send_retry.specs.Class.{AnswerData, Failed}
 use Rattle.http_line.specs.Line.{Moves}
 use Rattle.http_edge.specs.Steps.{HasFailed}
-use Rattle.http_edge.specs.Post.{Tells}
+use Rattle.http_edge.specs.Post.{Tells, LacksAnswer}
 use Rattle.http_edge.specs.declared.wire.EdgeFault.{EdgeFault}
 use Rattle.http_edge.specs.declared.wire.EdgeFault.TheVariants.{OutOfMemory, ReadFailed, WriteFailed}
 
@@ -27,11 +27,13 @@ pub data BreaksOff {L : Type 0} (gives takes : L → L → List ℕ → Type 0) 
       → Moves gives takes old new [] front → fault ≢ ReadFailed
       → (fault ≡ OutOfMemory → Moves gives takes old new [] [])
       → (fault ≡ WriteFailed → HasFailed (failed old) (failed new)) → BreaksOff gives takes failed post old new fault
-  -- the post was written; a read failed, or memory was refused
+  -- the post was written; a read failed, before which no whole answer that states its end had come, or memory was
+  -- refused
   in_answer : (between : L) (read : List ℕ)
       → Moves gives takes old between [] post
       → Moves gives takes between new read [] → fault ≢ WriteFailed
       → (fault ≡ ReadFailed → HasFailed (failed between) (failed new))
+      → (fault ≡ ReadFailed → LacksAnswer read)
       → BreaksOff gives takes failed post old new fault
 
 -- What a post over a line comes to: what the bytes read tell, or no whole answer, where a fault broke it off.

@@ -1,7 +1,8 @@
 -- Heads of answers, at the front of bytes of which more may follow.
-use Rattle.std.proofs.Common.{◌≡◌, ◌≢◌, ℕ, zero, suc, ◌+◌, ◌≤◌, Bool, true, Option, Some, None, inl, inr, List, ◌++◌, length, take, drop, map, refl, sym, ap, subst, ◌∙◌, append_assoc, length-append, length-take, arith}
+use Rattle.std.proofs.Common.{◌≡◌, ◌≢◌, ℕ, zero, suc, ◌+◌, ◌<◌, ◌≤◌, ⊎_elim, Bool, true, false, Option, Some, None, inl, inr, List, ◌++◌, length, take, drop, map, refl, sym, ap, subst, ◌∙◌, append_assoc, length-append, length-take, arith}
+use Rattle.std.proofs.lemmas.Bool.{cases_lt, le-ltb}
 use Rattle.std.proofs.lemmas.List.{take-append-le, drop-append-le, length-map}
-use Rattle.std.specs.Prelude.{◌/◌, ◌==◌, ◌&&◌, not}
+use Rattle.std.specs.Prelude.{◌/◌, ◌==◌, ◌&&◌, not, nat_lt}
 use Rattle.httparse.specs.Grammar.{ResponseHead, print_response, status_code}
 use Rattle.httparse.specs.Spans.{IsResponseAt, header_bytes, ResponseExceeds, ResponseOverflows}
 use Rattle.httparse.specs.Grammar.{NeverHasResponse}
@@ -10,7 +11,7 @@ use Rattle.httparse.specs.declared.Error.TheVariants.{HeaderName, HeaderValue, N
 use Rattle.httparse.specs.declared.spans.HeaderSpan.{HeaderSpan}
 use Rattle.httparse.specs.declared.spans.ResponseSpans.{ResponseSpans}
 use Rattle.http_edge.specs.Message.{max_fields, max_head}
-use Rattle.http_edge.specs.Post.{answer_framing_in, answer_framing_of, retry_after_in, retry_after_of, HasAnswerHead, HasFinalHead, RefusesAnswerHead, bad, many, long, SkipsInterims, is_interim, Tells, whole, many_interims, bad_head, bad_framing, bad_body, cut_head, cut_body}
+use Rattle.http_edge.specs.Post.{answer_framing_in, answer_framing_of, retry_after_in, retry_after_of, HasAnswerHead, HasFinalHead, RefusesAnswerHead, bad, many, long, SkipsInterims, is_interim, Tells, whole, bad_body, cut_body}
 use Rattle.http_edge.specs.AnswerBody.{IsAnswerHead, IsAnswerBody}
 use Rattle.http_edge.specs.declared.answer_head.AnswerHead.{AnswerHead}
 use Rattle.send_retry.specs.Class.{AnswerData, Http, Failed}
@@ -114,17 +115,6 @@ final_read {read} {h} {after} more p = record {
   final = p.final;
 }
 
--- an end that was met later was met
-pub tells_since : {read : List ℕ} {ended over : Bool} {answer : AnswerData} → (ended ≡ true → over ≡ true)
-    → Tells read ended answer → Tells read over answer
-tells_since since (whole h after body left framing p q r e) = whole h after body left framing p q r (λ f. since (e f))
-tells_since since (many_interims rest p) = many_interims rest p
-tells_since since (bad_head n rest few p q) = bad_head n rest few p q
-tells_since since (bad_framing h after p q) = bad_framing h after p q
-tells_since since (bad_body h after framing p q r) = bad_body h after framing p q r
-tells_since since (cut_head n rest few p q e) = cut_head n rest few p q (since e)
-tells_since since (cut_body h after framing p q r e) = cut_body h after framing p q r (since e)
-
 -- one more interim head, counted as the code counts
 pub skips_next : (n : ℕ) (h : ResponseHead) (read rest after : List ℕ) → SkipsInterims n read rest
     → HasAnswerHead rest h after → is_interim h ≡ true → SkipsInterims (n + 1) read after
@@ -146,6 +136,10 @@ pub retry_there : {bytes : List ℕ} {spans : List HeaderSpan} {found : Response
 unfolding retry_after_of
 retry_there {bytes} {spans} {found} {h} at s e = e ∙ ap retry_after_in at.fields
 
+-- what isn't below another number isn't found below it
+pub still_before : (m n : ℕ) → ¬ (m < n) → nat_lt m n ≡ false
+still_before m n not_less = ⊎_elim (λ less. absurd (not_less less)) (λ le. le-ltb m n le) (cases_lt m n)
+
 -- what a head and its body come to
 abbrev pub told_by : AnswerHead → Option (List ℕ) → AnswerData
 told_by head None = Failed
@@ -153,14 +147,15 @@ told_by head (Some bytes) = Http head.status head.retry_after bytes
 
 pub told_after : (read : List ℕ) {before buffer : List ℕ} {h : ResponseHead} {ended : Type 0} (over : Bool)
     (head : AnswerHead)
-    (framing : Framing) → (ended → over ≡ true) → IsAnswerHead buffer head h → head.framing ≡ Some framing
+    (framing : Framing) → (ended → over ≡ true) → (¬ ended → over ≡ false) → IsAnswerHead buffer head h → head.framing ≡ Some framing
     → HasFinalHead before h (drop head.len buffer) → (found : Option (List ℕ))
     → IsAnswerBody framing (drop head.len buffer ++ read) ended found
     → Tells (before ++ read) over (told_by head found)
-told_after read {before} {buffer} {h} {ended} over head framing since is e final None (inl never) =
+told_after read {before} {buffer} {h} {ended} over head framing since still is e final None (inl never) =
     bad_body h (drop head.len buffer ++ read) framing (final_read read final) (sym is.framing ∙ e) never
-told_after read {before} {buffer} {h} {ended} over head framing since is e final None (inr cut) =
+told_after read {before} {buffer} {h} {ended} over head framing since still is e final None (inr cut) =
     cut_body h (drop head.len buffer ++ read) framing (final_read read final) (sym is.framing ∙ e) cut.0 (since cut.1)
-told_after read {before} {buffer} {h} {ended} over head framing since is e final (Some bytes) found =
-    rw (is.status, is.retry_after, found.4) (whole h (drop head.len buffer ++ read) found.0 found.1 framing
-    (final_read read final) (sym is.framing ∙ e) found.2 (λ f. since (found.3 f)))
+told_after read {before} {buffer} {h} {ended} over head framing since still is e final (Some bytes) found =
+    rw (is.status, is.retry_after, found.5) (whole h (drop head.len buffer ++ read) found.0 found.1 framing
+    (final_read read final) (sym is.framing ∙ e) found.2 (λ f. since (found.3 f))
+    (λ f. still (found.4 f)))

@@ -1,15 +1,18 @@
 -- Bytes tell one answer.
-use Rattle.std.proofs.Common.{◌≡◌, ℕ, zero, suc, ◌≤◌, ◌⊎◌, inl, inr, Bool, true, false, List, [], length, take, drop, Some, None, refl, sym, ap, subst, ◌∙◌, append-nil, length-append, length-take, arith}
+use Rattle.std.proofs.Common.{◌≡◌, ◌≢◌, ℕ, zero, suc, ◌≤◌, ◌⊎◌, ⊎_elim, inl, inr, Bool, true, false, List, [], ◌++◌, length, take, drop, Option, Some, None, refl, sym, ap, subst, ◌∙◌, append-nil, length-append, length-take, arith}
 use Rattle.std.proofs.lemmas.List.{take-append-drop}
-use Rattle.httparse.specs.Grammar.{ResponseHead, print_response, status_code}
+use Rattle.httparse.specs.Grammar.{ResponseHead, print_response, status_code, HasNoResponse}
 use Rattle.httparse.proofs.GrammarLemmas.{response_unique}
 use Rattle.http1.specs.declared.framing.Framing.{Framing}
 use Rattle.http1.specs.declared.framing.Framing.TheVariants.{NoBody, Length, Chunked, UntilClose}
 use Rattle.http1.proofs.TextLemmas.{front_within}
 use Rattle.send_retry.specs.Class.{AnswerData, Http, Failed}
 use Rattle.http_edge.specs.Message.{max_head}
-use Rattle.http_edge.specs.Post.{HasAnswerHead, HasAnswerBody, HasFinalHead, RefusesAnswerHead, bad, many, long, SkipsInterims, is_interim, answer_framing_of, retry_after_of, kept_of, Tells, whole, many_interims, bad_head, bad_framing, bad_body, cut_head, cut_body, OneAnswer}
+use Rattle.http_edge.specs.Post.{HasAnswerHead, HasAnswerBody, HasFinalHead, RefusesAnswerHead, bad, many, long, SkipsInterims, is_interim, answer_framing_of, retry_after_of, kept_of, Tells, whole, many_interims, bad_head, bad_framing, bad_body, cut_head, cut_body, LacksAnswer, OneAnswer}
 use Rattle.http_edge.proofs.Parts.{fronts_same}
+use Rattle.http_edge.specs.declared.answer_head.AnswerHead.{AnswerHead}
+use Rattle.http_edge.specs.AnswerBody.{IsAnswerHead, LacksAnswerBody}
+use Rattle.http_edge.proofs.Answered.{final_read}
 use Rattle.http_edge.proofs.Once.{chunked_same}
 
 answer_same : {bytes : List ℕ} {h k : ResponseHead} {a b : List ℕ} → HasAnswerHead bytes h a → HasAnswerHead bytes k b
@@ -102,7 +105,7 @@ record Whole (read : List ℕ) (answer : AnswerData) : Type 0 where
 
 sorted : {read : List ℕ} {ended : Bool} {answer : AnswerData} → Tells read ended answer → (answer ≡ Failed)
     ⊎ Whole read answer
-sorted (whole h after body left framing p q r e) = inr (record {
+sorted (whole h after body left framing p q r e f) = inr (record {
   h = h;
   after = after;
   body = body;
@@ -123,13 +126,20 @@ sorted (cut_body h after framing p q r e) = inl refl
 some_same : {A : Type 0} {x y : A} → Some x ≡ Some y → x ≡ y
 some_same {A} {x} {y} e = cc
 
+-- how its body's end is found follows from the final head, however that is named
+framing_same : {read : List ℕ} {answer : AnswerData} (w : Whole read answer) {k : ResponseHead} {later : List ℕ}
+    {framing : Framing} → HasFinalHead read k later → answer_framing_of k ≡ Some framing → w.framing ≡ framing
+framing_same {read} {answer} w {k} {later} {framing} p q =
+    let s = final_same w.final p in
+    some_same (sym w.framed ∙ (ap answer_framing_of s.0 ∙ q))
+
 -- the body of a whole answer stands after the final head, however that is named
 body_there : {read : List ℕ} {answer : AnswerData} (w : Whole read answer) {k : ResponseHead} {later : List ℕ}
     {framing : Framing} → HasFinalHead read k later → answer_framing_of k ≡ Some framing
     → HasAnswerBody framing later w.body w.left
 body_there {read} {answer} w {k} {later} {framing} p q =
     let s = final_same w.final p in
-    let f : w.framing ≡ framing = some_same (sym w.framed ∙ (ap answer_framing_of s.0 ∙ q)) in
+    let f = framing_same w p q in
     subst (λ v. HasAnswerBody framing v w.body w.left) s.1 (subst (λ v. HasAnswerBody v w.after w.body w.left) f w.has)
 
 whole_not : {read : List ℕ} {ended : Bool} {answer : AnswerData} → Tells read ended Failed → Whole read answer → ⊥
@@ -170,3 +180,52 @@ one_answer read ended over a b x y = joined (sorted x) (sorted y)
     joined (inl p) (inr w) = absurd (whole_not (subst (Tells read ended) p x) w)
     joined (inr w) (inl q) = absurd (whole_not (subst (Tells read over) q y) w)
     joined (inr v) (inr w) = whole_same v w
+
+-- ---- where a read failed
+
+-- before the end of the input a whole answer states its end
+stated : {read : List ℕ} {answer : AnswerData} → Tells read false answer → (answer ≡ Failed)
+    ⊎ ((w : Whole read answer) × (w.framing ≢ UntilClose))
+stated (whole h after body left framing p q r e f) = inr (
+  record {
+    h = h;
+    after = after;
+    body = body;
+    left = left;
+    framing = framing;
+    final = p;
+    framed = q;
+    has = r;
+    is = refl;
+  },
+  λ same. not_both false (e same) refl,
+)
+stated (many_interims rest p) = inl refl
+stated (bad_head n rest few p q) = inl refl
+stated (bad_framing h after p q) = inl refl
+stated (bad_body h after framing p q r) = inl refl
+stated (cut_head n rest few p q e) = inl refl
+stated (cut_body h after framing p q r e) = inl refl
+
+not_failed : (status : ℕ) (retry_after : Option ℕ) (body : List ℕ) → Http status retry_after body ≡ Failed → ⊥
+not_failed status retry_after body e = cc
+
+-- where no whole head follows the interim ones there is no whole answer
+pub lacks_head : (n : ℕ) (read rest : List ℕ) → n ≤ 16 → SkipsInterims n read rest → HasNoResponse rest
+    → LacksAnswer read
+lacks_head n read rest few skips none = λ status retry_after body t.
+    not_failed status retry_after body
+    (one_answer read false true (Http status retry_after body) Failed t (cut_head n rest few skips none refl))
+
+-- and none where a head that states its body's end has no whole body
+lacks_final : {read : List ℕ} {h : ResponseHead} {after : List ℕ} (framing : Framing) → HasFinalHead read h after
+    → answer_framing_of h ≡ Some framing → LacksAnswerBody framing after → LacksAnswer read
+lacks_final {read} {h} {after} framing final framed none = λ status retry_after body t.
+    ⊎_elim (not_failed status retry_after body)
+    (λ w. none (λ e. w.1 (framing_same w.0 final framed ∙ e)) w.0.body w.0.left (body_there w.0 final framed)) (stated t)
+
+pub lacks_after : (read : List ℕ) {before buffer : List ℕ} {h : ResponseHead} (head : AnswerHead) (framing : Framing)
+    → IsAnswerHead buffer head h → head.framing ≡ Some framing → HasFinalHead before h (drop head.len buffer)
+    → LacksAnswerBody framing (drop head.len buffer ++ read) → LacksAnswer (before ++ read)
+lacks_after read {before} {buffer} {h} head framing is e final none =
+    lacks_final framing (final_read read final) (sym is.framing ∙ e) none

@@ -251,13 +251,18 @@ no_body_at_all body after p =
     ))
 
 -- the front that was searched has none, and it was looked at again or what follows ends no line: so there is none
-pub no_body_yet : (stream front more : List ℕ) (due : Bool) → stream ≡ front ++ more → HasNoBody chunked front
-    → (due ≡ true → StopsAt LacksAt max_body stream) → (has_line_end more ≡ true → due ≡ true) → HasNoBody chunked stream
-no_body_yet stream front more true e none lacks line = λ body after p. lacks_not (lacks refl) p
-no_body_yet stream front more false e none lacks line = λ body after p.
+pub no_body_since : (stream front more : List ℕ) (due : Bool) → stream ≡ front ++ more → HasNoBody chunked front
+    → (due ≡ true → HasNoBody chunked stream) → (has_line_end more ≡ true → due ≡ true) → HasNoBody chunked stream
+no_body_since stream front more true e none looked line = looked refl
+no_body_since stream front more false e none looked line = λ body after p.
     let t = body_text stream body after p in
     let found = line_within front more t.text after (not_so (has_line_end more) line) t.ends (sym e ∙ t.whole) in
     none body found.0 (subst (λ v. HasChunkedBody v body found.0) (sym found.1) (t.again found.0))
+
+pub no_body_yet : (stream front more : List ℕ) (due : Bool) → stream ≡ front ++ more → HasNoBody chunked front
+    → (due ≡ true → StopsAt LacksAt max_body stream) → (has_line_end more ≡ true → due ≡ true) → HasNoBody chunked stream
+no_body_yet stream front more due e none lacks line = no_body_since stream front more due e none
+    (λ met body after p. lacks_not (lacks met) p) line
 
 -- ---- what a watch knows
 

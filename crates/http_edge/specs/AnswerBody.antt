@@ -14,7 +14,7 @@ use Rattle.http_edge.specs.Chunks.{HasChunkedBody}
 use Rattle.http_edge.specs.Stages.{IsAt}
 use Rattle.httparse.specs.Grammar.{Field, ResponseHead, print_response, HasNoResponse, status_code}
 use Rattle.send_retry.specs.Class.{AnswerData, Failed}
-use Rattle.http_edge.specs.Post.{HasAnswerHead, HasAnswerBody, HasFinalHead, RefusesAnswerHead, Tells, answer_framing_of, retry_after_of, kept_of, max_kept}
+use Rattle.http_edge.specs.Post.{HasAnswerHead, HasAnswerBody, HasFinalHead, RefusesAnswerHead, Tells, LacksAnswer, answer_framing_of, retry_after_of, kept_of, max_kept}
 use Rattle.http_edge.specs.declared.chunks.ChunkedState.{ChunkedState as PartCode}
 use Rattle.http_edge.specs.declared.answer_head.AnswerHead.{AnswerHead}
 use Rattle.http_edge.specs.declared.answer_head.AnswerHeadProgress.{AnswerHeadProgress}
@@ -67,11 +67,12 @@ IsChunkPieces stream part kept rest looked More =
     × (looked ≡ true → (b left : List ℕ) → ¬ (HasChunkedBody stream b left))
 IsChunkPieces stream part kept rest looked Bad = (more b left : List ℕ) → ¬ (HasChunkedBody (stream ++ more) b left)
 
--- what came of the reading of an answer's body, which stands so in the stream
+-- what came of the reading of an answer's body, which stands so in the stream: with one that states its end that of the
+-- input isn't met
 abbrev pub IsBodyIn : (List ℕ → List ℕ → List ℕ → Type 0) → Framing → List ℕ → Type 0 → Option (List ℕ) → Type 0
 IsBodyIn Has framing stream ended (Some bytes) =
     (body : List ℕ) × (left : List ℕ) × Has stream body left × (framing ≡ Framed.UntilClose → ended)
-    × (bytes ≡ kept_of body)
+    × (framing ≢ Framed.UntilClose → ¬ ended) × (bytes ≡ kept_of body)
 IsBodyIn Has framing stream ended None =
     ((more b left : List ℕ) → ¬ (Has (stream ++ more) b left))
     ⊎ (((b left : List ℕ) → ¬ (Has stream b left)) × ended)
@@ -83,6 +84,18 @@ IsAnswerBody framing = IsBodyIn (HasAnswerBody framing) framing
 -- the same by http1's rules
 abbrev pub IsPlainBody : Framing → List ℕ → Type 0 → Option (List ℕ) → Type 0
 IsPlainBody framing = IsBodyIn (HasPlainBody framing) framing
+
+-- no whole body that states its end stands so at the stream's front
+abbrev pub HasNone : (List ℕ → List ℕ → List ℕ → Type 0) → Framing → List ℕ → Type 0
+HasNone Has framing stream = framing ≢ Framed.UntilClose → (b left : List ℕ) → ¬ (Has stream b left)
+
+-- no whole body of an answer that states its end
+abbrev pub LacksAnswerBody : Framing → List ℕ → Type 0
+LacksAnswerBody framing = HasNone (HasAnswerBody framing) framing
+
+-- the same by http1's rules
+abbrev pub LacksPlainBody : Framing → List ℕ → Type 0
+LacksPlainBody framing = HasNone (HasPlainBody framing) framing
 
 -- the head of the code says what the head of the grammar says, which stands in the bytes
 pub record IsAnswerHead (bytes : List ℕ) (head : AnswerHead) (h : ResponseHead) : Type 0 where
@@ -98,6 +111,13 @@ abbrev pub TellsBehind : {L : Type 0} → (gives takes : L → L → List ℕ �
 TellsBehind gives takes first last ended buffer head answer = (h : ResponseHead) → IsAnswerHead buffer head h
     → (read : List ℕ) × Moves gives takes first last read []
     × ((before : List ℕ) → HasFinalHead before h (drop head.len buffer) → Tells (before ++ read) ended answer)
+
+-- the same where a read failed: with what was read behind the head no whole answer has come
+abbrev pub LacksBehind : {L : Type 0} → (gives takes : L → L → List ℕ → Type 0) → (first last : L) → List ℕ
+    → AnswerHead → Type 0
+LacksBehind gives takes first last buffer head = (h : ResponseHead) → IsAnswerHead buffer head h
+    → (read : List ℕ) × Moves gives takes first last read []
+    × ((before : List ℕ) → HasFinalHead before h (drop head.len buffer) → LacksAnswer (before ++ read))
 
 -- what the bytes of an answer begin with
 abbrev pub IsAnswerHeadProgress : List ℕ → AnswerHeadProgress → Type 0

@@ -1,6 +1,6 @@
 -- A post and what a back end answers to it, on the wire. (OTLP/HTTP Request and OTLP/HTTP Response; RFC 9112, sections
 -- 3 and 4.) What is kept of an answer is this project's own rule.
-use Rattle.std.specs.Prelude.{◌≡◌, ℕ, zero, suc, ◌/◌, ◌≤◌, ◌==◌, ◌&&◌, ◌||◌, not, nat_le, min, Bool, true, false, List, [], ◌++◌, length, map, take, Option, Some, None, if◌then◌else◌, codes, decimal, ◌^◌, ◌-◌}
+use Rattle.std.specs.Prelude.{◌≡◌, ◌≢◌, ℕ, zero, suc, ◌/◌, ◌≤◌, ◌==◌, ◌&&◌, ◌||◌, not, nat_le, min, Bool, true, false, List, [], ◌++◌, length, map, take, Option, Some, None, if◌then◌else◌, codes, decimal, ◌^◌, ◌-◌}
 use Rattle.httparse.specs.Ascii.{crlf_bytes}
 use Rattle.httparse.specs.Grammar.{ResponseHead, IsResponseHead, print_response, HasNoResponse, NeverHasResponse, status_code}
 use Rattle.httparse.specs.Spans.{name_and_value, ResponseExceeds, ResponseOverflows}
@@ -116,10 +116,11 @@ pub record HasFinalHead (read : List ℕ) (h : ResponseHead) (after : List ℕ) 
 
 -- What the bytes read tell, where the input has ended or not. No whole answer is `Failed`.
 pub data Tells (read : List ℕ) (ended : Bool) : AnswerData → Type 0 where
-  -- a whole answer; a body without a stated end goes up to the end of the input
+  -- a whole answer: a body without a stated end goes up to the end of the input, and with any other that isn't met
   whole : (h : ResponseHead) (after body left : List ℕ) (framing : Framing) → HasFinalHead read h after
       → answer_framing_of h ≡ Some framing
       → HasAnswerBody framing after body left → (framing ≡ UntilClose → ended ≡ true)
+      → (framing ≢ UntilClose → ended ≡ false)
       → Tells read ended (Http (status_code h) (retry_after_of h) (kept_of body))
   many_interims : (rest : List ℕ) → SkipsInterims 17 read rest → Tells read ended Failed
   bad_head : (n : ℕ) (rest : List ℕ) → n ≤ 16 → SkipsInterims n read rest → RefusesAnswerHead rest
@@ -134,6 +135,11 @@ pub data Tells (read : List ℕ) (ended : Bool) : AnswerData → Type 0 where
   cut_body : (h : ResponseHead) (after : List ℕ) (framing : Framing) → HasFinalHead read h after
       → answer_framing_of h ≡ Some framing
       → ((body left : List ℕ) → ¬ (HasAnswerBody framing after body left)) → ended ≡ true → Tells read ended Failed
+
+-- no whole answer that states its end has come
+abbrev pub LacksAnswer : List ℕ → Type 0
+LacksAnswer read = (status : ℕ) (retry_after : Option ℕ) (body : List ℕ)
+    → ¬ (Tells read false (Http status retry_after body))
 
 -- the same bytes tell one answer, whether the input has ended or not
 abbrev pub OneAnswer : Type 0

@@ -3,8 +3,8 @@ ghost use Rattle.std.specs.Prelude.{◌≡◌, ◌≢◌, ℕ, ◌+◌, ◌/◌,
 ghost use Rattle.send_retry.specs.Class.{answer_view};
 ghost use Rattle.http_line.specs.Line.{Moves};
 ghost use Rattle.http_edge.specs.Steps.{HasFailed};
-ghost use Rattle.http_edge.specs.Post.{Tells, OneAnswer};
-ghost use Rattle.http_edge.specs.AnswerBody.{IsFinal, TellsBehind};
+ghost use Rattle.http_edge.specs.Post.{Tells, LacksAnswer, OneAnswer};
+ghost use Rattle.http_edge.specs.AnswerBody.{IsFinal, TellsBehind, LacksBehind};
 
 use crate::answer_body::read_answer_body;
 use crate::answer_head::{AnswerHead, AnswerHeadProgress, read_answer_head};
@@ -24,6 +24,10 @@ pub fn read_answer<L: Line>(alloc: Global, line: &mut L) -> Result<Answer, EdgeF
         × Tells read (nat_lt (L.ends line.old) (L.ends line.new)) (answer_view answer)) }
     ensures on_error { OnErr result ((read : List ℕ)
         × Moves L.gives L.takes line.old line.new read []) }
+    // A read that failed was wanted: no whole answer that states its end had come before it.
+    ensures unread { result ≡ Err EdgeFault.ReadFailed → (read : List ℕ)
+        × Moves L.gives L.takes line.old line.new read []
+        × LacksAnswer read }
     // One read at most gave no byte: nothing is read behind it.
     ensures stops { L.ends line.new ≤ L.ends line.old + 1 }
     // Without a fault no call of the line has failed.
@@ -56,6 +60,9 @@ fn read_final_head<L: Line>(
     ensures whole { IfOk result (λ found. IfSome found (λ _. L.ends line.new ≡ L.ends line.old)) }
     ensures on_error { OnErr result ((read : List ℕ)
         × Moves L.gives L.takes line.old line.new read []) }
+    ensures unread { result ≡ Err EdgeFault.ReadFailed → (read : List ℕ)
+        × Moves L.gives L.takes line.old line.new read []
+        × LacksAnswer read }
     ensures ends { L.ends line.old ≤ L.ends line.new }
     ensures stops { L.ends line.new ≤ L.ends line.old + 1 }
     ensures kept { OnOk result (L.failed line.new ≡ L.failed line.old) }
@@ -102,6 +109,8 @@ fn read_after<L: Line>(
         (nat_lt (L.ends line.old) (L.ends line.new)) buffer.old.items head (answer_view answer)) }
     ensures on_error { OnErr result ((read : List ℕ)
         × Moves L.gives L.takes line.old line.new read []) }
+    ensures unread { result ≡ Err EdgeFault.ReadFailed → LacksBehind L.gives L.takes line.old
+        line.new buffer.old.items head }
     ensures ends { L.ends line.old ≤ L.ends line.new }
     ensures stops { L.ends line.new ≤ L.ends line.old + 1 }
     ensures kept { OnOk result (L.failed line.new ≡ L.failed line.old) }

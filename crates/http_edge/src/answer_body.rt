@@ -3,7 +3,7 @@ ghost use Rattle.std.specs.Prelude.{◌≡◌, ◌≢◌, ℕ, ◌+◌, ◌<◌,
 ghost use Rattle.http_line.specs.Line.{Moves};
 ghost use Rattle.http_edge.specs.Steps.{HasFailed};
 ghost use Rattle.http_edge.specs.Stages.{IsAt};
-ghost use Rattle.http_edge.specs.AnswerBody.{Keeps, HasCome, IsPlainPieces, IsChunkPieces, IsPlainBody, IsAnswerBody};
+ghost use Rattle.http_edge.specs.AnswerBody.{Keeps, HasCome, IsPlainPieces, IsChunkPieces, IsPlainBody, IsAnswerBody, LacksPlainBody, LacksAnswerBody};
 
 use crate::chunks::{ChunkedState, Piece, next_piece};
 use crate::limits::{MAX_FIELDS, MAX_PART};
@@ -64,6 +64,9 @@ pub(crate) fn read_answer_body<L: Line>(
         (option_map (λ v. v.items) found)) }
     ensures on_error { OnErr result ((read : List ℕ)
         × Moves L.gives L.takes line.old line.new read []) }
+    ensures unread { result ≡ Err EdgeFault.ReadFailed → (read : List ℕ)
+        × Moves L.gives L.takes line.old line.new read []
+        × LacksAnswerBody framing (buffer.old.items ++ read) }
     ensures ends { L.ends line.old ≤ L.ends line.new }
     ensures stops { L.ends line.new ≤ L.ends line.old + 1 }
     ensures kept { OnOk result (L.failed line.new ≡ L.failed line.old) }
@@ -103,6 +106,9 @@ fn read_answer_chunks<L: Line>(
         (L.ends line.old < L.ends line.new) (option_map (λ v. v.items) found)) }
     ensures on_error { OnErr result ((read : List ℕ)
         × Moves L.gives L.takes line.old line.new read []) }
+    ensures unread { result ≡ Err EdgeFault.ReadFailed → (read : List ℕ)
+        × Moves L.gives L.takes line.old line.new read []
+        × LacksAnswerBody Framing.Chunked (buffer.old.items ++ read) }
     ensures ends { L.ends line.old ≤ L.ends line.new }
     ensures stops { L.ends line.new ≤ L.ends line.old + 1 }
     ensures kept { OnOk result (L.failed line.new ≡ L.failed line.old) }
@@ -212,6 +218,9 @@ fn read_plain_body<L: Line>(
         (option_map (λ v. v.items) found)) }
     ensures on_error { OnErr result ((read : List ℕ)
         × Moves L.gives L.takes line.old line.new read []) }
+    ensures unread { result ≡ Err EdgeFault.ReadFailed → (read : List ℕ)
+        × Moves L.gives L.takes line.old line.new read []
+        × LacksPlainBody framing (buffer.old.items ++ read) }
     ensures ends { L.ends line.old ≤ L.ends line.new }
     ensures stops { L.ends line.new ≤ L.ends line.old + 1 }
     ensures kept { OnOk result (L.failed line.new ≡ L.failed line.old) }

@@ -53,6 +53,9 @@ pub(crate) fn read_answer_head<L: Line>(
     ensures end { result ≡ Ok AnswerHeadProgress.More → L.ends line.old < L.ends line.new }
     ensures on_error { OnErr result ((read : List ℕ)
         × Moves L.gives L.takes line.old line.new read []) }
+    ensures unread { result ≡ Err EdgeFault.ReadFailed → (read : List ℕ)
+        × Moves L.gives L.takes line.old line.new read []
+        × HasNoResponse (buffer.old.items ++ read) }
     ensures ends { L.ends line.old ≤ L.ends line.new }
     ensures stops { L.ends line.new ≤ L.ends line.old + 1 }
     ensures kept { OnOk result (L.failed line.new ≡ L.failed line.old) }

@@ -1,8 +1,10 @@
-use Rattle.std.proofs.Common.{◌++◌, arith}
-use Rattle.std.proofs.lemmas.Bool.{lt-ltb, ltb-true}
+use Rattle.std.proofs.Common.{◌++◌, subst, arith}
+use Rattle.std.specs.Prelude.{nat_lt}
 use Rattle.std.proofs.lemmas.Result.{err_from_is_err_and}
+use Rattle.send_retry.specs.Class.{answer_view}
 use Rattle.http_line.proofs.Moved.{then}
-use Rattle.http_edge.proofs.Answered.{tells_since, answer_within}
+use Rattle.http_edge.specs.Post.{Tells}
+use Rattle.http_edge.proofs.Answered.{answer_within}
 use Rattle.http_edge.proofs.answer.read_answer.Goals as goal
 
 pub returns-in-None-clause-on_success : goal.returns-in-None-clause-on_success
@@ -19,11 +21,11 @@ pub returns-clause-on_success : goal.returns-clause-on_success
 returns-clause-on_success g c =
     let f = rw c.in-Some.is at c.in_ok-read_final_head.ensures.on_success in
     let a = c.in_ok-answer-in-Some.ensures.on_success f.2.0 f.2.2 in
-    let earlier = c.in_ok-read_final_head.ensures.ends in (
+    let same = rw c.in-Some.is at c.in_ok-read_final_head.ensures.whole in (
       f.0 ++ a.0,
       then f.1 a.1,
-      tells_since (λ e. lt-ltb _ _ (let met = ltb-true _ _ e in omega (arith, met, earlier)))
-          (a.2 f.0 f.2.1),
+      subst (λ n. Tells (f.0 ++ a.0) (nat_lt n (g.L.Line.ends c.read_after.new.line)) (answer_view c.in_ok-answer-in-Some.answer))
+          same (a.2 f.0 f.2.1),
     )
 
 pub returns-in_err-answer-in-Some-clause-on_error : goal.returns-in_err-answer-in-Some-clause-on_error
@@ -43,3 +45,13 @@ pub returns-in_err-answer-in-Some-clause-stops : goal.returns-in_err-answer-in-S
 returns-in_err-answer-in-Some-clause-stops g c =
     let same = rw c.in-Some.is at c.in_ok-read_final_head.ensures.whole in
     omega (arith, c.in_err-answer-in-Some.ensures.stops, same)
+
+pub returns-in_err-answer-in-Some-clause-unread : goal.returns-in_err-answer-in-Some-clause-unread
+returns-in_err-answer-in-Some-clause-unread g c = λ failed.
+    let f = rw c.in-Some.is at c.in_ok-read_final_head.ensures.on_success in
+    let p = err_from_is_err_and c.from_residual-in_err-answer-in-Some.result
+    c.from_residual-in_err-answer-in-Some.ensures.1 in
+    let told = p.1 in
+    let same = p.2 in
+    let a = c.in_err-answer-in-Some.ensures.unread (cc) f.2.0 f.2.2 in
+    (f.0 ++ a.0, then f.1 a.1, a.2 f.0 f.2.1)

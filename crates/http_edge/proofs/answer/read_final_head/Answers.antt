@@ -6,6 +6,7 @@ use Rattle.http_edge.specs.Post.{SkipsInterims, many_interims, bad_head, cut_hea
 use Rattle.http_edge.specs.AnswerBody.{IsAnswerHeadProgress}
 use Rattle.http_line.proofs.Moved.{then}
 use Rattle.http_edge.proofs.Answered.{skips_read, skips_more, skips_next, answer_within, status_interim}
+use Rattle.http_edge.proofs.OneAnswer.{lacks_head}
 use Rattle.http_line.specs.Line.{no_call}
 use Rattle.http_edge.proofs.answer.read_final_head.Goals as goal
 
@@ -115,3 +116,16 @@ heads-init g c = record {
 pub returns-then-not-is_interim-clause-whole : goal.returns-then-not-is_interim-clause-whole
 returns-then-not-is_interim-clause-whole g c =
     (rw c.in-Whole.is at c.in_ok-read_answer_head.ensures.whole) ∙ c.heads.invariant.ends
+
+pub returns-in_err-read_answer_head-clause-unread : goal.returns-in_err-read_answer_head-clause-unread
+returns-in_err-read_answer_head-clause-unread g c = λ failed.
+    let inv = c.heads.invariant in
+    let p = err_from_is_err_and c.from_residual.result c.from_residual.ensures.1 in
+    let told = p.1 in
+    let same = p.2 in
+    let e = c.in_err-read_answer_head.ensures.unread (cc) in (
+      inv.read ++ e.0,
+      then inv.so_far.0 e.1,
+      lacks_head c.heads.interims (inv.read ++ e.0) (c.heads.buffer.items ++ e.0) inv.few
+          (skips_read c.heads.interims inv.read c.heads.buffer.items e.0 inv.so_far.1) e.2,
+    )

@@ -20,6 +20,7 @@ returns-in-End-clause-on_success g c =
         rw c.drop_front.ensures q.1,
         λ e.
             absurd (q.3 e),
+        λ _ end. absurd (omega (arith, end, inv.ends)),
         q.2.bytes,
       ),
     )
@@ -55,6 +56,7 @@ returns-in-UntilClose-clause-on_success g c =
         come_to_end q.1 e (q.4 e),
         λ _.
             omega (arith, end.1, inv.ends),
+        λ other. absurd (other e),
         q.2.bytes,
       ),
     )
@@ -124,3 +126,15 @@ reads-init g c = record {
   kept = refl;
   ends = refl;
 }
+
+pub returns-in_err-fill-clause-unread : goal.returns-in_err-fill-clause-unread
+returns-in_err-fill-clause-unread g c = λ failed.
+    let inv = c.reads.invariant in
+    let told = err_from_is_err_and c.from_residual-in_err-fill.result c.from_residual-in_err-fill.ensures.1 in
+    let fault = told.1 in
+    let same = told.2 in
+    let quiet = c.in_err-fill.ensures.unread (cc) in
+    let p = c.in_ok-taken.ensures.pieces c.args.framing (c.args.buffer.now.items
+    ++ inv.read) inv.body (rw c.deref.ensures.value inv.so_far.1) inv.so_far.2 in
+    let q = rw (c.in-More.is, c.deref.ensures.value) at p in
+    (inv.read, then_to inv.so_far.0 quiet.0 (append-nil inv.read) refl, q.3)

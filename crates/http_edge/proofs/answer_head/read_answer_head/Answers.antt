@@ -1,7 +1,8 @@
-use Rattle.std.proofs.Common.{◌++◌, Ok, length, ap, ◌∙◌, append_assoc, [], refl, sym, append-nil, rules}
+use Rattle.std.proofs.Common.{◌++◌, Ok, length, ap, ◌∙◌, append_assoc, [], refl, sym, subst, append-nil, rules}
 use Rattle.std.proofs.lemmas.Result.{err_from_is_err_and}
 use Rattle.http_line.proofs.Moved.{then, then_to}
 use Rattle.http_line.specs.Line.{no_call}
+use Rattle.httparse.specs.Grammar.{HasNoResponse}
 use Rattle.http_edge.specs.Chunks.{has_text}
 use Rattle.http_edge.specs.AnswerBody.{IsAnswerHeadProgress}
 use Rattle.http_edge.specs.declared.answer_head.AnswerHeadProgress.TheVariants.{More}
@@ -58,4 +59,18 @@ returns-then-not-branch-clause-on_success g c =
       then_to inv.moves.0 quiet (append-nil inv.read) refl,
       end.0 ∙ inv.moves.1,
       rw end.0 none,
+    )
+
+pub returns-in_err-fill-clause-unread : goal.returns-in_err-fill-clause-unread
+returns-in_err-fill-clause-unread g c = λ failed.
+    let inv = c.looks.invariant in
+    let p = err_from_is_err_and c.from_residual.result c.from_residual.ensures.1 in
+    let told = p.1 in
+    let same = p.2 in
+    let quiet = c.in_err-fill.ensures.unread (cc) in
+    let none : IsAnswerHeadProgress c.looks.buffer.items More = rw (c.in-More.is, c.deref.ensures.value)
+    at c.answer_head_due.ensures.begin in (
+      inv.read,
+      then_to inv.moves.0 quiet.0 (append-nil inv.read) refl,
+      subst HasNoResponse inv.moves.1 none,
     )
