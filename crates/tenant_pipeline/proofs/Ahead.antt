@@ -180,6 +180,10 @@ module _ (own : Pipeline) (p : Part TraceNote) (moment : ℕ) (inv : PipelineInv
   pub none_runs : all_run moment (state_of own p) ≡ state_of own p
   none_runs = ran_none (enough (state_of own p)) moment (state_of own p) quiet
 
+  -- nor does one of what is written
+  pub none_runs_written : all_run moment (written_state_of own p) ≡ written_state_of own p
+  none_runs_written = ran_none (enough (written_state_of own p)) moment (written_state_of own p) (none_due own p drained_is.decided drained_is.fired_is moment)
+
   -- a back end answers
   pub answers : (now ticket word : ℕ) (given : AnswerData) (new : Pipeline) → Sends (settled ticket moment word given) own new → Stepped (Answer now ticket word given) moment own new p p
   answers now ticket word given new sends =

@@ -1,10 +1,11 @@
 //! Steps of a tenant that was drained, while batches wait that aren't written yet.
 
-ghost use Rattle.std.specs.Prelude.{◌≡◌, ◌<◌, ◌≤◌, ◌^◌, length, max, IfOk, OnOk, OnErr};
+ghost use Rattle.std.specs.Prelude.{◌≡◌, ◌<◌, ◌≤◌, ◌^◌, ℕ, length, max, IfOk, OnOk, OnErr};
 ghost use Rattle.tenant_stores.specs.Part.{part};
 ghost use Rattle.tenant_stores.specs.Promises.{OthersUnchanged};
 ghost use Rattle.tenant_rules.specs.Answers.{turn_told};
 ghost use Rattle.tenant_rules.specs.Machine.{acts, told_at, turned};
+ghost use Rattle.tenant_rules.specs.Own.{Drain};
 ghost use Rattle.tenant_pipeline.specs.Acts.{ActsAt, at};
 ghost use Rattle.tenant_pipeline.specs.Invariant.{PipelineInvariant, PipelineInvariantFrom, IsSwept};
 ghost use Rattle.tenant_pipeline.specs.OwnStep.{own_step_of};
@@ -43,6 +44,7 @@ impl Pipeline {
             (state_in self.new stores.new ≡ state_in self.old stores.old) }
         ensures holds_on_refusal { OnErr result (PipelineInvariant self.new stores.new) }
         ensures few { length self.new.sender.queue ≤ max 2 (length self.old.sender.queue) }
+        ensures again { (now : ℕ) → own_step_of step.now ≡ Drain now → self.new ≡ self.old }
         ensures swept { IsSwept self.old → IsSwept self.new }
         ensures others_unchanged { OthersUnchanged self.old.tenant stores.old stores.new }
         ensures tenant { self.new.tenant ≡ self.old.tenant }

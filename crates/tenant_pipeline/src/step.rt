@@ -4,9 +4,9 @@ ghost use Rattle.std.specs.Prelude.{◌≡◌, ◌<◌, ◌≤◌, ◌^◌, ◌�
 ghost use Rattle.span_batcher.specs.Timers.{is_due};
 ghost use Rattle.tenant_stores.specs.Part.{part};
 ghost use Rattle.tenant_stores.specs.Promises.{OthersUnchanged};
-ghost use Rattle.tenant_rules.specs.Own.{asked, moment_of, Retire};
+ghost use Rattle.tenant_rules.specs.Own.{asked, moment_of, Drain, Retire};
 ghost use Rattle.tenant_rules.specs.Machine.{acts, drain, effective, told_at};
-ghost use Rattle.tenant_rules.specs.Timers.{next_timer, IsFront};
+ghost use Rattle.tenant_rules.specs.Timers.{advanced, next_timer, IsFront};
 ghost use Rattle.tenant_rules.specs.declared.reply.StepReply.TheVariants as replies;
 ghost use Rattle.tenant_pipeline.specs.Acts.{ActsAt, all_run, at};
 ghost use Rattle.tenant_pipeline.specs.StateIn.{part_in, policies_of, state_in, written_state_in};
@@ -106,6 +106,11 @@ impl Pipeline {
         ensures few { 0 < length self.old.unsent
             → length self.new.sender.queue ≤ max 2 (length self.old.sender.queue) }
 
+        // A drain leaves no more batches in the queue than one, or than its due timers do.
+        ensures first { (now : ℕ) → own_step_of step.now ≡ Drain now → OnOk result
+            (let old = written_state_in self.old stores.old in length self.new.sender.queue
+            ≤ max 1 (length (advanced (effective (own_step_of step.now) old) old).sender.queue)) }
+
         // Where its retirement is told the last report, it may leave the stores.
         ensures may_leave { IfOk result (λ told. (now : ℕ) (text : List ℕ)
             → own_step_of step.now ≡ Retire now → told ≡ replies.Report text
@@ -166,6 +171,9 @@ impl Pipeline {
         ensures section { self.new.section ≡ self.old.section }
         ensures few { 0 < length self.old.unsent
             → length self.new.sender.queue ≤ max 2 (length self.old.sender.queue) }
+        ensures first { (now : ℕ) → own_step_of step.now ≡ Drain now → OnOk result
+            (length self.new.sender.queue
+            ≤ max 1 (length (all_run moment (written_state_in self.old stores.old)).sender.queue)) }
     {
         if !self.unsent.is_empty() {
             return self.take_drained(stores, moment, step);
@@ -201,6 +209,8 @@ impl Pipeline {
         ensures others_unchanged { OthersUnchanged self.old.tenant stores.old stores.new }
         ensures tenant { self.new.tenant ≡ self.old.tenant }
         ensures section { self.new.section ≡ self.old.section }
+        ensures first { (now : ℕ) → own_step_of step.now ≡ Drain now → OnOk result
+            (length self.new.sender.queue ≤ max 1 (length self.old.sender.queue)) }
     {
         match step {
             OwnStep::Post { prepared, .. } => {

@@ -1,4 +1,4 @@
-use Rattle.std.proofs.Common.{◌≡◌, ◌∙◌, ℕ, List, length, sym, ap, subst, arith, Result, Ok, Err}
+use Rattle.std.proofs.Common.{◌≡◌, ◌≤◌, ◌∙◌, ℕ, List, length, max, sym, ap, subst, arith, Result, Ok, Err}
 use Rattle.std.specs.Prelude.{IfOk, OnOk, OnErr}
 use Rattle.span_batcher.specs.Batches.{Batch}
 use Rattle.tenant_rules.specs.Machine.{acts, told_at}
@@ -11,9 +11,9 @@ use Rattle.tenant_pipeline.specs.OwnStep.{own_step_of}
 use Rattle.tenant_pipeline.specs.StateIn.{part_in, state_in, state_of, written_state_in}
 use Rattle.tenant_stores.specs.Part.{Part, part}
 use Rattle.tail_policy.specs.declared.note.TraceNote.{TraceNote}
-use Rattle.tenant_pipeline.proofs.Ahead.{none_runs}
+use Rattle.tenant_pipeline.proofs.Ahead.{none_runs, none_runs_written}
 use Rattle.tenant_pipeline.proofs.Behind.{empty_by, from_written, some_by, state_none, to_written}
-use Rattle.tenant_pipeline.proofs.Posting.{on_err}
+use Rattle.tenant_pipeline.proofs.Posting.{on_err, on_ok}
 use Rattle.tenant_pipeline.proofs.pipeline.Pipeline.run.Goals as goal
 
 -- ---- while batches aren't written
@@ -34,6 +34,16 @@ returns-then-not-is_empty-clause-told c =
     let some = some_by own.unsent c.is_empty.result c.if-not-is_empty.true c.is_empty.ensures.1 in
     let none = none_runs own (part_in own c.args.stores.now) c.args.moment c.requires.invariant some c.requires.later c.requires.fits in
     subst (λ (s : State). IfOk c.take_drained.result (λ told. told ≡ told_at c.args.moment (own_step_of c.args.step.now) (at c.args.moment s))) (sym none) c.take_drained.ensures.told
+
+pub returns-then-not-is_empty-clause-first : goal.returns-then-not-is_empty-clause-first
+returns-then-not-is_empty-clause-first c = λ now drains.
+    let own = c.args.self.now in
+    let m = c.args.moment in
+    let some = some_by own.unsent c.is_empty.result c.if-not-is_empty.true c.is_empty.ensures.1 in
+    let none = none_runs_written own (part_in own c.args.stores.now) m c.requires.invariant some c.requires.later c.requires.fits in
+    let queue : length c.take_drained.new.self.sender.queue ≡ length (all_run m (written_state_in own c.args.stores.now)).sender.queue =
+    ap (λ (o : Pipeline). length o.sender.queue) (c.take_drained.ensures.again now drains) ∙ sym (ap (λ (s : State). length s.sender.queue) none) in
+    on_ok c.take_drained.result (omega (arith, queue))
 
 -- ---- and else
 
@@ -75,6 +85,10 @@ returns-clause-told c =
     let same = state_none own (part_in own c.args.stores.now) none in
     let is : written_state_in c.run_due.new.self c.run_due.new.stores ≡ all_run m (state_in own c.args.stores.now) = c.in_ok-run_due.ensures.on_success ∙ sym (ap (all_run m) same) in
     subst (λ (s : State). IfOk c.take.result (λ told. told ≡ told_at m (own_step_of c.args.step.now) (at m s))) is c.take.ensures.told
+
+pub returns-clause-first : goal.returns-clause-first
+returns-clause-first c = λ now drains.
+    subst (λ (s : State). OnOk c.take.result (length c.take.new.self.sender.queue ≤ max 1 (length s.sender.queue))) c.in_ok-run_due.ensures.on_success (c.take.ensures.first now drains)
 
 pub returns-clause-on_refusal : goal.returns-clause-on_refusal
 returns-clause-on_refusal c =

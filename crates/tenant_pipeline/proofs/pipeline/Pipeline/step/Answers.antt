@@ -1,5 +1,7 @@
+use Rattle.std.proofs.Common.{◌≤◌, ℕ, length, max, subst}
+use Rattle.tenant_pipeline.specs.Acts.{all_run}
 use Rattle.tenant_pipeline.specs.OwnStep.{own_step_of}
-use Rattle.tenant_pipeline.specs.StateIn.{state_in}
+use Rattle.tenant_pipeline.specs.StateIn.{state_in, written_state_in}
 use Rattle.tenant_pipeline.proofs.Acting.{Acted, acted_done, may_leave}
 use Rattle.tenant_pipeline.proofs.Stepping.{Done, answers_of, ranges}
 use Rattle.tenant_pipeline.proofs.pipeline.Pipeline.step.Goals as goal
@@ -27,3 +29,7 @@ returns-clause-invariant c = (done c).held
 pub returns-clause-may_leave : goal.returns-clause-may_leave
 returns-clause-may_leave c = λ now text retires told.
     may_leave (own_step_of c.args.step.now) c.effective-moment.result now (state_in c.args.self.now c.args.stores.now) c.in_ok-told.told text c.run.new.self c.run.new.stores (acted c) c.in_ok-told.ensures.told retires told
+
+pub returns-clause-first : goal.returns-clause-first
+returns-clause-first c = λ now drains.
+    subst (λ (m : ℕ). length c.run.new.self.sender.queue ≤ max 1 (length (all_run m (written_state_in c.args.self.now c.args.stores.now)).sender.queue)) c.effective-moment.ensures.at (c.in_ok-told.ensures.first now drains)

@@ -126,3 +126,6 @@ returns-in-Drain-clause-on_success c = rw c.in-Drain.is c.drain.ensures.on_succe
 
 pub returns-in-Drain-clause-told : goal.returns-in-Drain-clause-told
 returns-in-Drain-clause-told c = rw c.in-Drain.is c.drain.ensures.told
+
+pub returns-in-Drain-clause-first : goal.returns-in-Drain-clause-first
+returns-in-Drain-clause-first c = λ now drains. c.drain.ensures.first
