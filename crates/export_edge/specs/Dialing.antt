@@ -1,5 +1,5 @@
 -- What becomes of a job that is posted to its own tenant's back end. This project's own rules.
-use Rattle.std.specs.Prelude.{◌≡◌, ℕ, List, length, Option, Some, None, option_and_then, nat_le, if◌then◌else◌}
+use Rattle.std.specs.Prelude.{◌≡◌, ℕ, ◌+◌, ◌≤◌, List, length, Option, Some, None, option_and_then, nat_le, if◌then◌else◌}
 use Rattle.std.specs.List.{slice_get}
 use Rattle.send_retry.specs.Class.{Failed}
 use Rattle.http_edge.specs.Post.{post_text}
@@ -20,7 +20,7 @@ address_in addresses tenant = option_and_then as_address (slice_get addresses te
 
 -- What a job came to, and how the dialer's state changed: the address that its tenant is then said to have, and no
 -- other, was dialed once, and over the line that came of it the job's own payload was posted, with that address as the
--- host. Where the tenant has no address nothing was dialed.
+-- host, and of the reads over it one at most gave no byte. Where the tenant has no address nothing was dialed.
 pub data JobComesTo {A D L : Type 0} (tells : A → ℕ → Option (List ℕ) → Type 0)
     (dials : D → List ℕ → Option L → D → Type 0)
     (gives takes : L → L → List ℕ → Type 0) (ends failed : L → ℕ) (addresses : A) (old new : D) (p : Posted)
@@ -32,4 +32,5 @@ pub data JobComesTo {A D L : Type 0} (tells : A → ℕ → Option (List ℕ) �
   over_a_line : (address : List ℕ) → tells addresses p.job.tenant (Some address) → (first last : L)
       → dials old address (Some first) new
       → ComesTo gives takes ends failed (post_text address p.job.payload) first last p.answer
+      → ends last ≤ ends first + 1
       → JobComesTo tells dials gives takes ends failed addresses old new p

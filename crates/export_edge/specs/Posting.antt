@@ -22,17 +22,20 @@ pub record Exchanges {L : Type 0} (gives takes : L → L → List ℕ → Type 0
 -- Between two states of a line the same began, and this fault broke it off.
 pub data BreaksOff {L : Type 0} (gives takes : L → L → List ℕ → Type 0) (failed : L → ℕ) (post : List ℕ) (old new : L)
     (fault : EdgeFault) : Type 0 where
-  -- a beginning of the post was written, and a write failed; or memory was refused, and nothing of it was written
+  -- a beginning of the post was written, and a write failed; or memory was refused: then nothing of the post was
+  -- written, and no call of the line has failed
   in_post : (front missing : List ℕ) → post ≡ front ++ missing
       → Moves gives takes old new [] front → fault ≢ ReadFailed
       → (fault ≡ OutOfMemory → Moves gives takes old new [] [])
+      → (fault ≡ OutOfMemory → failed new ≡ failed old)
       → (fault ≡ WriteFailed → HasFailed (failed old) (failed new)) → BreaksOff gives takes failed post old new fault
-  -- the post was written; a read failed, before which no whole answer that states its end had come, or memory was
-  -- refused
+  -- the post was written, by calls of which none failed; then a read failed, before which no whole answer that states
+  -- its end had come, or memory was refused, and no call of the line has failed
   in_answer : (between : L) (read : List ℕ)
-      → Moves gives takes old between [] post
+      → Moves gives takes old between [] post → failed between ≡ failed old
       → Moves gives takes between new read [] → fault ≢ WriteFailed
       → (fault ≡ ReadFailed → HasFailed (failed between) (failed new))
+      → (fault ≡ OutOfMemory → failed new ≡ failed between)
       → (fault ≡ ReadFailed → LacksAnswer read)
       → BreaksOff gives takes failed post old new fault
 

@@ -70,6 +70,7 @@ pub(crate) fn read_answer_body<L: Line>(
     ensures ends { L.ends line.old ≤ L.ends line.new }
     ensures stops { L.ends line.new ≤ L.ends line.old + 1 }
     ensures kept { OnOk result (L.failed line.new ≡ L.failed line.old) }
+    ensures unfailed { result ≡ Err EdgeFault.OutOfMemory → L.failed line.new ≡ L.failed line.old }
     ensures failed { result ≡ Err EdgeFault.ReadFailed
         → HasFailed (L.failed line.old) (L.failed line.new) }
     ensures no_write { result ≢ Err EdgeFault.WriteFailed }
@@ -112,6 +113,7 @@ fn read_answer_chunks<L: Line>(
     ensures ends { L.ends line.old ≤ L.ends line.new }
     ensures stops { L.ends line.new ≤ L.ends line.old + 1 }
     ensures kept { OnOk result (L.failed line.new ≡ L.failed line.old) }
+    ensures unfailed { result ≡ Err EdgeFault.OutOfMemory → L.failed line.new ≡ L.failed line.old }
     ensures failed { result ≡ Err EdgeFault.ReadFailed
         → HasFailed (L.failed line.old) (L.failed line.new) }
     ensures no_write { result ≢ Err EdgeFault.WriteFailed }
@@ -224,6 +226,7 @@ fn read_plain_body<L: Line>(
     ensures ends { L.ends line.old ≤ L.ends line.new }
     ensures stops { L.ends line.new ≤ L.ends line.old + 1 }
     ensures kept { OnOk result (L.failed line.new ≡ L.failed line.old) }
+    ensures unfailed { result ≡ Err EdgeFault.OutOfMemory → L.failed line.new ≡ L.failed line.old }
     ensures failed { result ≡ Err EdgeFault.ReadFailed
         → HasFailed (L.failed line.old) (L.failed line.new) }
     ensures no_write { result ≢ Err EdgeFault.WriteFailed }

@@ -25,9 +25,10 @@ pub fn write_post<L: Line>(
         × Moves L.gives L.takes line.old line.new [] front) }
     ensures quiet { result ≡ Err EdgeFault.OutOfMemory
         → Moves L.gives L.takes line.old line.new [] [] }
-    // No read gave no byte, and without a fault no call of the line has failed.
+    // No read gave no byte. Without a fault, and where memory alone was refused, no call of the line has failed.
     ensures end { L.ends line.new ≡ L.ends line.old }
     ensures kept { OnOk result (L.failed line.new ≡ L.failed line.old) }
+    ensures unfailed { result ≡ Err EdgeFault.OutOfMemory → L.failed line.new ≡ L.failed line.old }
     ensures failed { result ≡ Err EdgeFault.WriteFailed
         → HasFailed (L.failed line.old) (L.failed line.new) }
     ensures no_read { result ≢ Err EdgeFault.ReadFailed }

@@ -16,4 +16,4 @@ returns-in-Some-dial g c =
     let host = c.as_str-host.result.now in
     let own = rw (c.in-Some.is, sym c.as_str-host.ensures.value) at c.address.ensures in
     over_a_line host own c.in-Some-dial.line c.post_over.new.line (rw c.in-Some-dial.is at c.dial.ensures)
-    (rw c.as_slice.ensures at c.post_over.ensures.comes_to)
+    (rw c.as_slice.ensures at c.post_over.ensures.comes_to) c.post_over.ensures.stops
