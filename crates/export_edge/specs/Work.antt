@@ -1,8 +1,8 @@
 -- What turners and senders do, over their whole work. This project's own rules.
-use Rattle.std.specs.Prelude.{◌≡◌, ℕ, Bool, false, List, [], ◌∷◌, ◌++◌, map, flat_map, Option, Some, None, option_to_list}
+use Rattle.std.specs.Prelude.{◌≡◌, ℕ, ◌^◌, ◌≤◌, ◌⊎◌, Bool, false, List, [], ◌∷◌, ◌++◌, length, map, flat_map, Option, Some, None, option_to_list}
 use Rattle.log_positions.specs.Numbered.{items_of}
 use Rattle.job_lane.specs.declared.job.Job.{Job}
-use Rattle.job_lane.specs.Lane.{NumberedJob}
+use Rattle.job_lane.specs.Lane.{NumberedJob, SeatLists, WasFull, WasEmpty}
 use Rattle.send_retry.specs.Class.{AnswerData}
 use Rattle.export_edge.specs.declared.work.TurnResult.{TurnResult}
 use Rattle.export_edge.specs.declared.work.TurnResult.TheVariants as turned
@@ -100,14 +100,36 @@ pub record Turning {S B : Type 0} (turns : S → Turn → S → Type 0) (calls :
   pub pushes : after ≡ before ++ pushed
   pub jobs : flat_map jobs_in made ≡ items_of pushed ++ option_to_list held
 
+-- the seat, once it has pushed one job more
+abbrev pub with_push : SeatLists → NumberedJob → SeatLists
+with_push seat pushed = record { lane = seat.lane; pushes = seat.pushes ++ pushed ∷ []; pops = seat.pops }
+
+-- a lane that holds at most so many jobs took none of this seat: it was full, or the seat had pushed all that it may
+abbrev pub HadNoRoom : ℕ → SeatLists → Type 0
+HadNoRoom capacity seat = (2 ^ 62 ≤ length seat.pushes) ⊎ WasFull capacity seat
+
+-- A turner's seat before a round and behind it. It pushes in no round but those that push, and a round that found no
+-- room had none.
+abbrev pub PushesAt : ℕ → SeatLists → TurnerRound → SeatLists → Type 0
+PushesAt capacity seat (turn_made t) next = next ≡ seat
+PushesAt capacity seat (job_pushed pushed) next = next ≡ with_push seat pushed
+PushesAt capacity seat lane_full next = (next ≡ seat) × HadNoRoom capacity seat
+
+-- what a turner did, and its seat in each of its rounds, at a lane that holds at most so many jobs
+abbrev pub TurningAt : {S B : Type 0} → (S → Turn → S → Type 0) → (B → BeatCall → B → Type 0) → (capacity : ℕ)
+    → (old new : S) → (beat beat' : B) → (seat seat' : SeatLists) → (held : Option Job) → Type 0
+TurningAt turns calls capacity old new beat beat' seat seat' held =
+    (did : Turning turns calls old new beat beat' seat.pushes seat'.pushes held)
+    × Through (PushesAt capacity) seat did.rounds seat'
+
 -- whatever was done before, this was done behind it, once the beat had said that the work is not over
-abbrev pub TurnsBehind : {S B : Type 0} → (S → Turn → S → Type 0) → (B → BeatCall → B → Type 0) → (old new : S)
-    → (beat beat' : B) → (pushed pushed' : List NumberedJob) → (held held' : Option Job) → Type 0
-TurnsBehind {S} {B} turns calls old new beat beat' pushed pushed' held held' =
-    (start : S) (b last : B) (before : List NumberedJob)
-    → Turning turns calls start old b last before pushed held
+abbrev pub TurnsBehind : {S B : Type 0} → (S → Turn → S → Type 0) → (B → BeatCall → B → Type 0) → (capacity : ℕ)
+    → (old new : S) → (beat beat' : B) → (seat seat' : SeatLists) → (held held' : Option Job) → Type 0
+TurnsBehind {S} {B} turns calls capacity old new beat beat' seat seat' held held' =
+    (start : S) (b last : B) (first : SeatLists)
+    → TurningAt turns calls capacity start old b last first seat held
     → calls last (looked false) beat
-    → Turning turns calls start new b beat' before pushed' held'
+    → TurningAt turns calls capacity start new b beat' first seat' held'
 
 -- a job that was posted, and what came of it
 pub record Posted : Type 0 where
@@ -200,15 +222,33 @@ pub record Sending {B S T : Type 0} (posts : B → Posted → B → Type 0) (tak
   pub pops : after ≡ before ++ popped
   pub jobs : map (λ h. h.post.job) sent ≡ items_of popped
 
+-- the seat, once it has popped one job more
+abbrev pub with_pop : SeatLists → NumberedJob → SeatLists
+with_pop seat popped = record { lane = seat.lane; pushes = seat.pushes; pops = seat.pops ++ popped ∷ [] }
+
+-- A sender's seat before a round and behind it. It pops the job that it sends and none besides, and a round that found
+-- the lane empty found it so.
+abbrev pub PopsAt : SeatLists → SenderRound → SeatLists → Type 0
+PopsAt seat (job_sent h) next = (n : ℕ) × (next ≡ with_pop seat (n, h.post.job))
+PopsAt seat lane_empty next = (next ≡ seat) × WasEmpty seat
+
+-- what a sender did, and its seat in each of its rounds
+abbrev pub SendingAt : {B S T : Type 0} → (B → Posted → B → Type 0) → (takes refuses : S → Given → S → Type 0)
+    → (T → BeatCall → T → Type 0) → (back_end back_end' : B) → (sink sink' : S) → (beat beat' : T)
+    → (seat seat' : SeatLists) → Type 0
+SendingAt posts takes refuses calls back_end back_end' sink sink' beat beat' seat seat' =
+    (did : Sending posts takes refuses calls back_end back_end' sink sink' beat beat' seat.pops seat'.pops)
+    × Through PopsAt seat did.rounds seat'
+
 -- whatever was sent before, this was sent behind it, once the beat had said that the work is not over
 abbrev pub SendsBehind : {B S T : Type 0} → (B → Posted → B → Type 0) → (takes refuses : S → Given → S → Type 0)
     → (T → BeatCall → T → Type 0) → (back_end back_end' : B) → (sink sink' : S) → (beat beat' : T)
-    → (popped popped' : List NumberedJob) → Type 0
-SendsBehind {B} {S} {T} posts takes refuses calls back_end back_end' sink sink' beat beat' popped popped' =
-    (b : B) (s : S) (t last : T) (before : List NumberedJob)
-    → Sending posts takes refuses calls b back_end s sink t last before popped
+    → (seat seat' : SeatLists) → Type 0
+SendsBehind {B} {S} {T} posts takes refuses calls back_end back_end' sink sink' beat beat' seat seat' =
+    (b : B) (s : S) (t last : T) (first : SeatLists)
+    → SendingAt posts takes refuses calls b back_end s sink t last first seat
     → calls last (looked false) beat
-    → Sending posts takes refuses calls b back_end' s sink' t beat' before popped'
+    → SendingAt posts takes refuses calls b back_end' s sink' t beat' first seat'
 
 -- the job was posted, and the answer to it handed in, each time at the moment that the beat then gave
 abbrev pub SendsJob : {B S T : Type 0} → (B → Posted → B → Type 0) → (takes refuses : S → Given → S → Type 0)

@@ -1,7 +1,7 @@
 //! Who takes jobs from the lane, posts them and hands in the answers.
 ghost use Rattle.std.specs.Prelude.{◌≡◌, ℕ, List, true};
 ghost use Rattle.send_retry.specs.Class.{answer_view};
-ghost use Rattle.export_edge.specs.Work.{posted, handed, Hands, Sending, Through, SendsBehind, SendsJob, looked, hand_calls};
+ghost use Rattle.export_edge.specs.Work.{posted, handed, Hands, Sending, PopsAt, Through, SendsBehind, SendsJob, looked, hand_calls};
 
 use crate::back_end::BackEnd;
 use crate::work::{AnswerRefused, AnswerSink, Beat};
@@ -21,9 +21,9 @@ pub fn run_sender<B: BackEnd, S: AnswerSink, T: Beat, R: Wait>(
 )
     requires { seat.old.lane ≡ lane.now.name }
     ensures same { (seat.new.lane ≡ seat.old.lane) × (seat.new.pushes ≡ seat.old.pushes) }
-    ensures work { (last : T) × Sending B.posts S.takes S.refuses T.calls back_end.old back_end.new
-        sink.old sink.new beat.old last seat.old.pops seat.new.pops
-        × T.calls last (looked true) beat.new }
+    ensures work { (last : T) × (did : Sending B.posts S.takes S.refuses T.calls
+        back_end.old back_end.new sink.old sink.new beat.old last seat.old.pops seat.new.pops)
+        × T.calls last (looked true) beat.new × Through PopsAt seat.old did.rounds seat.new }
 {
     'rounds: for _ in rt.forever() {
         if beat.is_over() {
@@ -47,7 +47,7 @@ fn send_once<B: BackEnd, S: AnswerSink, T: Beat, R: Wait>(
     ensures same { (seat.new.lane ≡ seat.old.lane) × (seat.new.pushes ≡ seat.old.pushes) }
     // Whatever was done before.
     ensures work { SendsBehind B.posts S.takes S.refuses T.calls back_end.old back_end.new
-        sink.old sink.new beat.old beat.new seat.old.pops seat.new.pops }
+        sink.old sink.new beat.old beat.new seat.old seat.new }
 {
     match lane.pop(rt, seat) {
         Some(job) => send(rt, back_end, sink, beat, &job),

@@ -1,6 +1,6 @@
 //! Who makes turns and hands their jobs to the lane.
-ghost use Rattle.std.specs.Prelude.{◌≡◌, ℕ, ◌++◌, ◌∷◌, [], true, MatchOption, option_to_list};
-ghost use Rattle.export_edge.specs.Work.{Turn, Turning, TurnsBehind, Through, jobs_in, job_of, looked, gave, paused, pause_after};
+ghost use Rattle.std.specs.Prelude.{◌≡◌, ℕ, true, MatchOption, option_to_list};
+ghost use Rattle.export_edge.specs.Work.{Turn, Turning, PushesAt, HadNoRoom, with_push, TurnsBehind, Through, jobs_in, job_of, looked, gave, paused, pause_after};
 
 use crate::work::{Beat, JobSource, TurnResult};
 use job_lane::{Job, Lane, LaneSeat};
@@ -18,8 +18,9 @@ pub fn run_turner<S: JobSource, B: Beat, R: Wait>(
 ) -> Option<Job>
     requires { seat.old.lane ≡ lane.now.name }
     ensures same { (seat.new.lane ≡ seat.old.lane) × (seat.new.pops ≡ seat.old.pops) }
-    ensures work { (last : B) × Turning S.turns B.calls source.old source.new beat.old last
-        seat.old.pushes seat.new.pushes result × B.calls last (looked true) beat.new }
+    ensures work { (last : B) × (did : Turning S.turns B.calls source.old source.new beat.old last
+        seat.old.pushes seat.new.pushes result) × B.calls last (looked true) beat.new
+        × Through (PushesAt lane.now.capacity) seat.old did.rounds seat.new }
 {
     let mut held = None;
     'rounds: for _ in rt.forever() {
@@ -43,8 +44,8 @@ fn turn_once<S: JobSource, B: Beat, R: Wait>(
     requires { seat.old.lane ≡ lane.now.name }
     ensures same { (seat.new.lane ≡ seat.old.lane) × (seat.new.pops ≡ seat.old.pops) }
     // Whatever was done before.
-    ensures work { TurnsBehind S.turns B.calls source.old source.new beat.old beat.new
-        seat.old.pushes seat.new.pushes held result }
+    ensures work { TurnsBehind S.turns B.calls lane.now.capacity source.old source.new
+        beat.old beat.new seat.old seat.new held result }
 {
     match held {
         Some(job) => offer(rt, lane, seat, beat, job),
@@ -62,9 +63,8 @@ fn offer<B: Beat, R: Wait>(
 ) -> Option<Job>
     requires { seat.old.lane ≡ lane.now.name }
     ensures same { (seat.new.lane ≡ seat.old.lane) × (seat.new.pops ≡ seat.old.pops) }
-    ensures pushed { MatchOption result ((n : ℕ)
-        × (seat.new.pushes ≡ seat.old.pushes ++ (n, job) ∷ []))
-        (λ back. (back ≡ job) × (seat.new.pushes ≡ seat.old.pushes)) }
+    ensures pushed { MatchOption result ((n : ℕ) × (seat.new ≡ with_push seat.old (n, job)))
+        (λ back. (back ≡ job) × (seat.new ≡ seat.old) × HadNoRoom lane.now.capacity seat.old) }
     ensures pauses { MatchOption result (beat.new ≡ beat.old)
         (λ _. B.calls beat.old paused beat.new) }
 {

@@ -7,7 +7,7 @@ rounds-init g c = record {
   lane = refl;
   pushes = refl;
   work = unsent g.B.BackEnd.posts g.S.AnswerSink.takes g.S.AnswerSink.refuses g.T.Beat.calls c.args.back_end.now
-      c.args.sink.now c.args.beat.now c.args.seat.now.pops;
+      c.args.sink.now c.args.beat.now c.args.seat.now;
 }
 
 pub rounds-preserved : goal.rounds-preserved
@@ -17,8 +17,10 @@ rounds-preserved g c =
       lane = c.send_once.ensures.same.0 ∙ before.lane;
       pushes = c.send_once.ensures.same.1 ∙ before.pushes;
       work = c.send_once.ensures.work c.args.back_end.now c.args.sink.now c.args.beat.now c.rounds.beat
-          c.args.seat.now.pops before.work c.if-is_over.ensures;
+          c.args.seat.now before.work c.if-is_over.ensures;
     }
 
 pub returns-then-is_over-clause-work : goal.returns-then-is_over-clause-work
-returns-then-is_over-clause-work g c = (c.rounds.beat, c.rounds.invariant.work, c.if-is_over.ensures)
+returns-then-is_over-clause-work g c =
+    let work = c.rounds.invariant.work in
+    (c.rounds.beat, work.0, c.if-is_over.ensures, work.1)
