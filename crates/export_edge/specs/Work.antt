@@ -104,12 +104,13 @@ pub record Turning {S B : Type 0} (turns : S → Turn → S → Type 0) (calls :
 abbrev pub with_push : SeatLists → NumberedJob → SeatLists
 with_push seat pushed = record { lane = seat.lane; pushes = seat.pushes ++ pushed ∷ []; pops = seat.pops }
 
--- a lane that holds at most so many jobs took none of this seat: it was full, or the seat had pushed all that it may
+-- a lane that holds at most so many jobs had no room for one of this seat: it was full, or the seat had pushed all that
+-- it may
 abbrev pub HadNoRoom : ℕ → SeatLists → Type 0
 HadNoRoom capacity seat = (2 ^ 62 ≤ length seat.pushes) ⊎ WasFull capacity seat
 
--- A turner's seat before a round and behind it. It pushes in no round but those that push, and a round that found no
--- room had none.
+-- a turner's seat before a round and behind it: a push adds its job, no other round changes the seat, and in one that
+-- found no room there was none
 abbrev pub PushesAt : ℕ → SeatLists → TurnerRound → SeatLists → Type 0
 PushesAt capacity seat (turn_made t) next = next ≡ seat
 PushesAt capacity seat (job_pushed pushed) next = next ≡ with_push seat pushed
@@ -226,8 +227,8 @@ pub record Sending {B S T : Type 0} (posts : B → Posted → B → Type 0) (tak
 abbrev pub with_pop : SeatLists → NumberedJob → SeatLists
 with_pop seat popped = record { lane = seat.lane; pushes = seat.pushes; pops = seat.pops ++ popped ∷ [] }
 
--- A sender's seat before a round and behind it. It pops the job that it sends and none besides, and a round that found
--- the lane empty found it so.
+-- a sender's seat before a round and behind it: it pops the job that it sends, no other round changes the seat, and in
+-- one that found no job the lane was empty
 abbrev pub PopsAt : SeatLists → SenderRound → SeatLists → Type 0
 PopsAt seat (job_sent h) next = (n : ℕ) × (next ≡ with_pop seat (n, h.post.job))
 PopsAt seat lane_empty next = (next ≡ seat) × WasEmpty seat
