@@ -1,5 +1,5 @@
 -- A step of a tenant, from its timers and what it does then.
-use Rattle.std.proofs.Common.{◌≡◌, ◌<◌, ◌∙◌, ℕ, zero, suc, List, [], ◌∷◌, refl, sym, ap, subst, arith, Bool, false}
+use Rattle.std.proofs.Common.{◌≡◌, ◌<◌, ◌∙◌, ℕ, zero, suc, List, [], ◌∷◌, refl, sym, ap, subst, arith, Bool, true, false, not}
 use Rattle.std.specs.Prelude.{if◌then◌else◌, Result, Ok, Err, OnOk, OnErr}
 use Rattle.tail_policy.specs.declared.note.TraceNote.{TraceNote}
 use Rattle.tail_settings.specs.Section.{SectionData}
@@ -60,6 +60,11 @@ next_alone : (step : Own) (moment : ℕ) (s : State) → effective step s ≡ mo
 unfolding next
 next_alone step moment s now none =
     ap (λ (m : ℕ). acts m step (advanced m s)) now ∙ ap (λ (z : State). acts moment step (at moment z)) (ran_none (enough s) moment s none)
+
+-- what is not so is false
+pub not_so : (b : Bool) → not b ≡ true → b ≡ false
+not_so true is = absurd (cc)
+not_so false is = refl
 
 -- ---- what is sent
 

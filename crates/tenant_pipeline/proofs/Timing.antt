@@ -104,6 +104,10 @@ all_ran moment n s t is quiet =
     let same : n + m ≡ m + n = omega arith in
     is ∙ (sym here ∙ (ap (λ (k : ℕ). ran k moment s) same ∙ there))
 
+-- where none is due at first, none is after those that ran
+pub none_later : (moment : ℕ) (old s : State) → IsFront moment old s → is_due (next_timer old) moment ≡ false → is_due (next_timer s) moment ≡ false
+none_later moment old s front quiet = ap (λ (t : State). is_due (next_timer t) moment) (front.1 ∙ ran_none front.0 moment old quiet) ∙ quiet
+
 -- ---- the batch timer
 
 module _ (own : Pipeline) (p q : Part TraceNote) where

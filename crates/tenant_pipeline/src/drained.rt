@@ -1,6 +1,6 @@
 //! Steps of a tenant that was drained, while batches wait that aren't written yet.
 
-ghost use Rattle.std.specs.Prelude.{◌≡◌, ◌<◌, ◌≤◌, ◌^◌, ℕ, length, max, IfOk, OnOk, OnErr};
+ghost use Rattle.std.specs.Prelude.{◌≡◌, ◌<◌, ◌≤◌, ◌^◌, ℕ, true, length, max, IsOk, IfOk, OnOk, OnErr};
 ghost use Rattle.tenant_stores.specs.Part.{part};
 ghost use Rattle.tenant_stores.specs.Promises.{OthersUnchanged};
 ghost use Rattle.tenant_rules.specs.Answers.{turn_told};
@@ -10,6 +10,7 @@ ghost use Rattle.tenant_pipeline.specs.Acts.{ActsAt, at};
 ghost use Rattle.tenant_pipeline.specs.Invariant.{PipelineInvariant, PipelineInvariantFrom, IsSwept};
 ghost use Rattle.tenant_pipeline.specs.OwnStep.{own_step_of};
 ghost use Rattle.tenant_pipeline.specs.StateIn.{part_in, state_in};
+ghost use Rattle.tenant_pipeline.specs.Steps.{asks_none};
 ghost use Rattle.tenant_pipeline.specs.Unsent.{HandsOut, IsAhead};
 
 use crate::pipeline::Pipeline;
@@ -45,6 +46,8 @@ impl Pipeline {
         ensures holds_on_refusal { OnErr result (PipelineInvariant self.new stores.new) }
         ensures few { length self.new.sender.queue ≤ max 2 (length self.old.sender.queue) }
         ensures again { (now : ℕ) → own_step_of step.now ≡ Drain now → self.new ≡ self.old }
+        ensures none { asks_none (own_step_of step.now) (state_in self.old stores.old) ≡ true
+            → IsOk result }
         ensures swept { IsSwept self.old → IsSwept self.new }
         ensures others_unchanged { OthersUnchanged self.old.tenant stores.old stores.new }
         ensures tenant { self.new.tenant ≡ self.old.tenant }

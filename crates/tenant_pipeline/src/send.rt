@@ -1,12 +1,12 @@
 //! What workers, back ends and reports are told, and what they change.
 
-ghost use Rattle.std.specs.Prelude.{◌≡◌, ◌≤◌, ◌^◌, IfOk, OnOk, OnErr};
+ghost use Rattle.std.specs.Prelude.{◌≡◌, ◌≤◌, ◌^◌, ◌&&◌, false, IsOk, IfOk, OnOk, OnErr};
 ghost use Rattle.drop_ledger.specs.Report.{report_text};
 ghost use Rattle.send_retry.specs.Class.{answer_view};
 ghost use Rattle.send_queue.specs.Sender.{in_flight};
 ghost use Rattle.tenant_rules.specs.Answers.{turn_told, heard};
 ghost use Rattle.tenant_rules.specs.Machine.{turned, settled, all_moved};
-ghost use Rattle.tenant_rules.specs.Retiring.{retire_told};
+ghost use Rattle.tenant_rules.specs.Retiring.{holds_none, retire_told};
 ghost use Rattle.tenant_rules.specs.Sender.{sizes, active_sizes};
 ghost use Rattle.tenant_rules.specs.Sending.{ended_by};
 ghost use Rattle.tenant_rules.specs.declared.reply.StepReply.TheVariants as replies;
@@ -87,7 +87,9 @@ impl Pipeline {
 
     /// What a retirement tells: the last report, or that the tenant wasn't drained or holds spans.
     pub(crate) fn retire_told(&self) -> Result<StepReply, AllocError>
-        ensures { IfOk result (λ told. told ≡ retire_told self.now.drained self.now.ledger) }
+        ensures told { IfOk result (λ told. told ≡ retire_told self.now.drained self.now.ledger) }
+        ensures none { (self.now.drained && holds_none self.now.ledger.places) ≡ false
+            → IsOk result }
     {
         if self.drained && self.is_empty() {
             self.report_told()

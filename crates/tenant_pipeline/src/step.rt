@@ -1,6 +1,6 @@
 //! A tenant's own steps, one at a time.
 
-ghost use Rattle.std.specs.Prelude.{◌≡◌, ◌<◌, ◌≤◌, ◌^◌, ◌↔◌, ℕ, List, [], false, length, max, IsTrue, IfOk, OnOk, OnErr};
+ghost use Rattle.std.specs.Prelude.{◌≡◌, ◌<◌, ◌≤◌, ◌^◌, ◌↔◌, ℕ, List, [], true, false, length, max, IsTrue, IsOk, IfOk, OnOk, OnErr};
 ghost use Rattle.span_batcher.specs.Timers.{is_due};
 ghost use Rattle.tenant_stores.specs.Part.{part};
 ghost use Rattle.tenant_stores.specs.Promises.{OthersUnchanged};
@@ -12,7 +12,7 @@ ghost use Rattle.tenant_pipeline.specs.Acts.{ActsAt, all_run, at};
 ghost use Rattle.tenant_pipeline.specs.StateIn.{part_in, policies_of, state_in, written_state_in};
 ghost use Rattle.tenant_pipeline.specs.Invariant.{PipelineInvariant, PipelineInvariantAt, PipelineInvariantFrom, IsSwept, HasNonePending};
 ghost use Rattle.tenant_pipeline.specs.OwnStep.{own_step_of, IsMadeFor};
-ghost use Rattle.tenant_pipeline.specs.Steps.{Answers, FollowsFromState};
+ghost use Rattle.tenant_pipeline.specs.Steps.{Answers, FollowsFromState, TakesNone, asks_none};
 
 use crate::pipeline::{LATEST_MOMENT, Pipeline};
 use otlp_prepare::Prepared;
@@ -95,6 +95,10 @@ impl Pipeline {
         ensures on_refusal { OnErr result (let old = state_in self.old stores.old in
             IsFront (effective (own_step_of step.now) old) old (state_in self.new stores.new)) }
 
+        // An answer that finds no timer due takes no memory, nor do some others.
+        ensures takes_none { TakesNone (own_step_of step.now) (state_in self.old stores.old)
+            → IsOk result }
+
         // What always holds goes on to hold, and nothing of other tenants changes.
         ensures invariant { PipelineInvariant self.new stores.new }
         ensures swept { IsSwept self.old → IsSwept self.new }
@@ -174,6 +178,9 @@ impl Pipeline {
         ensures first { (now : ℕ) → own_step_of step.now ≡ Drain now → OnOk result
             (length self.new.sender.queue
             ≤ max 1 (length (all_run moment (written_state_in self.old stores.old)).sender.queue)) }
+        ensures none { is_due (next_timer (state_in self.old stores.old)) moment ≡ false
+            → asks_none (own_step_of step.now) (state_in self.old stores.old) ≡ true
+            → IsOk result }
     {
         if !self.unsent.is_empty() {
             return self.take_drained(stores, moment, step);
@@ -211,6 +218,8 @@ impl Pipeline {
         ensures section { self.new.section ≡ self.old.section }
         ensures first { (now : ℕ) → own_step_of step.now ≡ Drain now → OnOk result
             (length self.new.sender.queue ≤ max 1 (length self.old.sender.queue)) }
+        ensures none { asks_none (own_step_of step.now) (written_state_in self.old stores.old)
+            ≡ true → IsOk result }
     {
         match step {
             OwnStep::Post { prepared, .. } => {
@@ -255,6 +264,7 @@ impl Pipeline {
         ensures section { self.new.section ≡ self.old.section }
         ensures first { OnOk result
             (length self.new.sender.queue ≤ max 1 (length self.old.sender.queue)) }
+        ensures none { self.old.drained ≡ true → IsOk result }
     {
         if self.drained {
             return Ok(StepReply::Done);

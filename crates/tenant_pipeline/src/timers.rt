@@ -1,6 +1,6 @@
 //! A tenant's due timers, which run one at a time: the batch timer, and the decisions of rows.
 
-ghost use Rattle.std.specs.Prelude.{◌≡◌, ◌<◌, ◌≤◌, ◌^◌, ℕ, [], true, false, Some, OnOk, OnErr};
+ghost use Rattle.std.specs.Prelude.{◌≡◌, ◌<◌, ◌≤◌, ◌^◌, ℕ, [], true, false, Some, IsOk, OnOk, OnErr};
 ghost use Rattle.span_batcher.specs.State.{next_due};
 ghost use Rattle.span_batcher.specs.Timers.{is_due};
 ghost use Rattle.tenant_rules.specs.Timers.{first_due, next_timer, is_batch, flushed, decide, one_run, ran, enough, IsFront};
@@ -218,6 +218,10 @@ impl Pipeline {
             (written_state_in self.new stores.new) }
         ensures quiet { OnOk result (is_due (next_timer (written_state_in self.new stores.new))
             moment ≡ false) }
+
+        // Where none is due, no memory is taken.
+        ensures none { is_due (next_timer (written_state_in self.old stores.old)) moment ≡ false
+            → IsOk result }
 
         // What always holds goes on to hold, up to the moment where all have run.
         ensures invariant { WrittenInvariant self.new stores.new }

@@ -1,14 +1,17 @@
-use Rattle.std.proofs.Common.{◌≡◌, ◌≤◌, ◌∙◌, ℕ, List, length, max, sym, ap, subst, arith, Result, Ok, Err}
+use Rattle.std.proofs.Common.{◌≡◌, ◌≤◌, ◌∙◌, ℕ, List, length, max, sym, ap, subst, arith, true, false, Result, Ok, Err}
 use Rattle.std.specs.Prelude.{IfOk, OnOk, OnErr}
 use Rattle.span_batcher.specs.Batches.{Batch}
+use Rattle.span_batcher.specs.Timers.{is_due}
 use Rattle.tenant_rules.specs.Machine.{acts, told_at}
 use Rattle.tenant_rules.specs.State.{State}
-use Rattle.tenant_rules.specs.Timers.{IsFront}
+use Rattle.tenant_rules.specs.Timers.{IsFront, enough, next_timer}
+use Rattle.tenant_rules.proofs.Fronts.{ran_none}
 use Rattle.tenant_pipeline.specs.declared.pipeline.Pipeline.{Pipeline}
 use Rattle.tenant_pipeline.specs.Acts.{ActsAt, all_run, at}
 use Rattle.tenant_pipeline.specs.Invariant.{PipelineInvariant, PipelineInvariantBy}
 use Rattle.tenant_pipeline.specs.OwnStep.{own_step_of}
 use Rattle.tenant_pipeline.specs.StateIn.{part_in, state_in, state_of, written_state_in}
+use Rattle.tenant_pipeline.specs.Steps.{asks_none}
 use Rattle.tenant_stores.specs.Part.{Part, part}
 use Rattle.tail_policy.specs.declared.note.TraceNote.{TraceNote}
 use Rattle.tenant_pipeline.proofs.Ahead.{none_runs, none_runs_written}
@@ -89,6 +92,26 @@ returns-clause-told c =
 pub returns-clause-first : goal.returns-clause-first
 returns-clause-first c = λ now drains.
     subst (λ (s : State). OnOk c.take.result (length c.take.new.self.sender.queue ≤ max 1 (length s.sender.queue))) c.in_ok-run_due.ensures.on_success (c.take.ensures.first now drains)
+
+pub returns-clause-none : goal.returns-clause-none
+returns-clause-none c = λ quiet asks.
+    let own = c.args.self.now in
+    let m = c.args.moment in
+    let none = empty_by own.unsent c.is_empty.result c.if-not-is_empty.false c.is_empty.ensures.0 in
+    let same = state_none own (part_in own c.args.stores.now) none in
+    let written = written_state_in own c.args.stores.now in
+    let quiet' : is_due (next_timer written) m ≡ false = subst (λ (s : State). is_due (next_timer s) m ≡ false) same quiet in
+    let still : state_in own c.args.stores.now ≡ written_state_in c.run_due.new.self c.run_due.new.stores =
+    same ∙ sym (c.in_ok-run_due.ensures.on_success ∙ ran_none (enough written) m written quiet') in
+    c.take.ensures.none (subst (λ (s : State). asks_none (own_step_of c.args.step.now) s ≡ true) still asks)
+
+pub returns-in_err-run_due-clause-none : goal.returns-in_err-run_due-clause-none
+returns-in_err-run_due-clause-none c = λ quiet asks.
+    let own = c.args.self.now in
+    let none = empty_by own.unsent c.is_empty.result c.if-not-is_empty.false c.is_empty.ensures.0 in
+    let same = state_none own (part_in own c.args.stores.now) none in
+    let no : false ≡ true = c.in_err-run_due.ensures.none (subst (λ (s : State). is_due (next_timer s) c.args.moment ≡ false) same quiet) in
+    absurd (cc)
 
 pub returns-clause-on_refusal : goal.returns-clause-on_refusal
 returns-clause-on_refusal c =

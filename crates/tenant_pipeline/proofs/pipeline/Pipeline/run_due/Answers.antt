@@ -4,7 +4,7 @@ use Rattle.tenant_rules.specs.Ready.{lesser}
 use Rattle.tenant_rules.specs.Timers.{next_timer}
 use Rattle.tenant_rules.proofs.Fronts.{to_run, one_run_less, IsFront-push}
 use Rattle.tenant_pipeline.specs.StateIn.{part_in, written_state_in}
-use Rattle.tenant_pipeline.proofs.Timing.{all_ran}
+use Rattle.tenant_pipeline.proofs.Timing.{all_ran, none_later}
 use Rattle.tenant_pipeline.proofs.Holding.{held_later}
 use Rattle.tenant_pipeline.proofs.pipeline.Pipeline.run_due.Goals as goal
 
@@ -33,6 +33,13 @@ loop-decision-smaller c =
 
 pub returns-in_err-run_one-clause-others_unchanged : goal.returns-in_err-run_one-clause-others_unchanged
 returns-in_err-run_one-clause-others_unchanged c = λ other ne. c.in_err-run_one.ensures.others_unchanged other (λ e. ne (e ∙ c.loop-decision.invariant.tenant)) ∙ c.loop-decision.invariant.others other ne
+
+pub returns-in_err-run_one-clause-none : goal.returns-in_err-run_one-clause-none
+returns-in_err-run_one-clause-none c = λ quiet.
+    let s = written_state_in c.loop-decision.self c.loop-decision.stores in
+    let later = none_later c.args.moment (written_state_in c.args.self.now c.args.stores.now) s c.loop-decision.invariant.front quiet in
+    let due : is_due (next_timer s) c.args.moment ≡ true = sym (c.is_due.ensures ∙ ap (λ (t : Option ℕ). is_due t c.args.moment) (c.lesser.ensures ∙ (λ i. lesser (c.next_due.ensures i) (c.loop-decision.invariant.decision i)))) ∙ c.loop-decision-test.true in
+    absurd (cc)
 
 pub returns-clause-on_success : goal.returns-clause-on_success
 returns-clause-on_success c =

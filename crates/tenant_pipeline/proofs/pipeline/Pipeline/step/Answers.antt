@@ -1,4 +1,6 @@
-use Rattle.std.proofs.Common.{◌≤◌, ℕ, length, max, subst}
+use Rattle.std.proofs.Common.{◌≡◌, ◌≤◌, ℕ, length, max, sym, subst, true, false}
+use Rattle.span_batcher.specs.Timers.{is_due}
+use Rattle.tenant_rules.specs.Timers.{next_timer}
 use Rattle.tenant_pipeline.specs.Acts.{all_run}
 use Rattle.tenant_pipeline.specs.OwnStep.{own_step_of}
 use Rattle.tenant_pipeline.specs.StateIn.{state_in, written_state_in}
@@ -33,3 +35,11 @@ returns-clause-may_leave c = λ now text retires told.
 pub returns-clause-first : goal.returns-clause-first
 returns-clause-first c = λ now drains.
     subst (λ (m : ℕ). length c.run.new.self.sender.queue ≤ max 1 (length (all_run m (written_state_in c.args.self.now c.args.stores.now)).sender.queue)) c.effective-moment.ensures.at (c.in_ok-told.ensures.first now drains)
+
+pub returns-in_err-told-clause-takes_none : goal.returns-in_err-told-clause-takes_none
+returns-in_err-told-clause-takes_none c = λ takes.
+    let s = state_in c.args.self.now c.args.stores.now in
+    let quiet : is_due (next_timer s) c.effective-moment.result ≡ false =
+    subst (λ (m : ℕ). is_due (next_timer s) m ≡ false) (sym c.effective-moment.ensures.at) takes.0 in
+    let no : false ≡ true = c.in_err-told.ensures.none quiet takes.1 in
+    absurd (cc)

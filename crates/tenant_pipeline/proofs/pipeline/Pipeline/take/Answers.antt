@@ -1,15 +1,16 @@
-use Rattle.std.proofs.Common.{◌≡◌, ◌∙◌, [], ap}
+use Rattle.std.proofs.Common.{◌≡◌, ◌∙◌, ◌&&◌, [], true, false, ap}
 use Rattle.std.proofs.lemmas.Result.{on_ok_weaker}
 use Rattle.send_retry.specs.Class.{AnswerData, answer_view}
 use Rattle.tenant_rules.specs.Machine.{turned}
 use Rattle.tenant_rules.specs.Own.{Turn, Answer}
+use Rattle.tenant_rules.specs.Retiring.{holds_none}
 use Rattle.tenant_pipeline.specs.declared.pipeline.Pipeline.{Pipeline}
 use Rattle.tenant_pipeline.specs.Acts.{at}
 use Rattle.tenant_pipeline.specs.Outbox.{Sends}
 use Rattle.tenant_pipeline.specs.StateIn.{part_in, policies_of}
 use Rattle.tenant_pipeline.proofs.Behind.{from_written}
 use Rattle.tenant_pipeline.proofs.Posting.{on_ok}
-use Rattle.tenant_pipeline.proofs.Stepping.{SentOver, seen_same, sent_either, sent_over, turn_sent, answer_sent}
+use Rattle.tenant_pipeline.proofs.Stepping.{SentOver, not_so, seen_same, sent_either, sent_over, turn_sent, answer_sent}
 use Rattle.tenant_pipeline.proofs.Sweeping.{swept_same}
 use Rattle.tenant_pipeline.proofs.pipeline.Pipeline.take.Goals as goal
 
@@ -119,7 +120,7 @@ pub returns-in-Retire-clause-holds : goal.returns-in-Retire-clause-holds
 returns-in-Retire-clause-holds c = on_ok c.retire_told.result (from_written c.args.moment c.args.self.now (part_in c.args.self.now c.args.stores.now) c.requires.holds)
 
 pub returns-in-Retire-clause-told : goal.returns-in-Retire-clause-told
-returns-in-Retire-clause-told c = rw c.in-Retire.is c.retire_told.ensures
+returns-in-Retire-clause-told c = rw c.in-Retire.is c.retire_told.ensures.told
 
 pub returns-in-Drain-clause-on_success : goal.returns-in-Drain-clause-on_success
 returns-in-Drain-clause-on_success c = rw c.in-Drain.is c.drain.ensures.on_success
@@ -129,3 +130,22 @@ returns-in-Drain-clause-told c = rw c.in-Drain.is c.drain.ensures.told
 
 pub returns-in-Drain-clause-first : goal.returns-in-Drain-clause-first
 returns-in-Drain-clause-first c = λ now drains. c.drain.ensures.first
+
+-- ---- those that ask for no memory
+
+pub returns-in_err-reply-in-Post-clause-none : goal.returns-in_err-reply-in-Post-clause-none
+returns-in_err-reply-in-Post-clause-none c = λ asks. let no : false ≡ true = rw c.in-Post.is at asks in absurd (cc)
+
+pub returns-in-Turn-clause-none : goal.returns-in-Turn-clause-none
+returns-in-Turn-clause-none c = λ asks. let no : false ≡ true = rw c.in-Turn.is at asks in absurd (cc)
+
+pub returns-in-Report-clause-none : goal.returns-in-Report-clause-none
+returns-in-Report-clause-none c = λ asks. let no : false ≡ true = rw c.in-Report.is at asks in absurd (cc)
+
+pub returns-in-Retire-clause-none : goal.returns-in-Retire-clause-none
+returns-in-Retire-clause-none c = λ asks.
+    let own = c.args.self.now in
+    c.retire_told.ensures.none (not_so (own.drained && holds_none own.ledger.places) (rw c.in-Retire.is at asks))
+
+pub returns-in-Drain-clause-none : goal.returns-in-Drain-clause-none
+returns-in-Drain-clause-none c = λ asks. c.drain.ensures.none (rw c.in-Drain.is at asks)

@@ -1,10 +1,11 @@
-use Rattle.std.proofs.Common.{◌≡◌, ◌≤◌, ◌∙◌, ℕ, max, length, sym, ap, subst, arith, Result, Ok, Err}
+use Rattle.std.proofs.Common.{◌≡◌, ◌≤◌, ◌∙◌, ◌&&◌, true, false, ℕ, max, length, sym, ap, subst, arith, Result, Ok, Err}
 use Rattle.std.specs.Result.{OnOk, OnErr}
 use Rattle.std.proofs.lemmas.Result.{on_ok_weaker}
 use Rattle.send_retry.specs.Class.{AnswerData, answer_view}
 use Rattle.tenant_stores.specs.Part.{part}
 use Rattle.tenant_rules.specs.Machine.{acts}
 use Rattle.tenant_rules.specs.Own.{Turn, Answer}
+use Rattle.tenant_rules.specs.Retiring.{holds_none}
 use Rattle.tenant_pipeline.specs.declared.pipeline.Pipeline.{Pipeline}
 use Rattle.tenant_pipeline.specs.Acts.{ActsAt}
 use Rattle.tenant_pipeline.specs.Invariant.{PipelineInvariantFrom}
@@ -12,6 +13,7 @@ use Rattle.tenant_pipeline.specs.StateIn.{part_in, state_in, state_of}
 use Rattle.tenant_pipeline.specs.Unsent.{HandsOut, IsAhead}
 use Rattle.tenant_pipeline.proofs.Ahead.{Stepped, answered_keeps, answers, hands_out, state_ahead, turned_keeps}
 use Rattle.tenant_pipeline.proofs.Posting.{on_err_then}
+use Rattle.tenant_pipeline.proofs.Stepping.{not_so}
 use Rattle.tenant_pipeline.proofs.pipeline.Pipeline.take_drained.Goals as goal
 
 -- ---- a worker asks for a job
@@ -108,3 +110,19 @@ returns-in-Answer-clause-holds c =
     let done : Stepped (Answer 0 ticket word given) m own new p p = answers own p m c.requires.invariant c.requires.unsent c.requires.later c.requires.fits 0 ticket word given new c.settle.ensures.sends in
     let tenant : new.tenant ≡ own.tenant = ap (λ (o : Pipeline). o.tenant) c.settle.ensures.sends.same in
     subst (λ (t : ℕ). PipelineInvariantFrom m new (part t stores)) (sym tenant) done.holds
+
+-- ---- those that ask for no memory
+
+pub returns-in_err-reply-in-Post-clause-none : goal.returns-in_err-reply-in-Post-clause-none
+returns-in_err-reply-in-Post-clause-none c = λ asks. let no : false ≡ true = rw c.in-Post.is at asks in absurd (cc)
+
+pub returns-in-Turn-clause-none : goal.returns-in-Turn-clause-none
+returns-in-Turn-clause-none c = λ asks. let no : false ≡ true = rw c.in-Turn.is at asks in absurd (cc)
+
+pub returns-in-Report-clause-none : goal.returns-in-Report-clause-none
+returns-in-Report-clause-none c = λ asks. let no : false ≡ true = rw c.in-Report.is at asks in absurd (cc)
+
+pub returns-in-Retire-clause-none : goal.returns-in-Retire-clause-none
+returns-in-Retire-clause-none c = λ asks.
+    let own = c.args.self.now in
+    c.retire_told.ensures.none (not_so (own.drained && holds_none own.ledger.places) (rw c.in-Retire.is at asks))
