@@ -1,7 +1,9 @@
 //! A client's connection, how long it may take, and how many bytes.
 
-ghost use Rattle.std.specs.Prelude.{◌≡◌, ◌+◌, ◌-◌, ◌^◌, false, min, if◌then◌else◌};
-ghost use Rattle.service_runtime.specs.Visit.{is_within};
+ghost use Rattle.std.specs.Prelude.{◌≡◌, ◌<◌, true, false, None, IfOk, if◌then◌else◌};
+ghost use Rattle.std.specs.Io.{ReadsAtMost, WritesAtMost};
+ghost use Rattle.std.specs.Io.KnownBytes.{Keeps, ReadConsumes, WriteAppends};
+ghost use Rattle.service_runtime.specs.Visit.{come_with, is_interim, is_within};
 
 use crate::beat::Signals;
 use std::io;
@@ -96,7 +98,10 @@ impl<'v, R: Clock> Visit<'v, R> {
     }
 
     /// Bounds the next read, where requests are bounded.
-    fn limit_read(&mut self) -> io::Result<()> {
+    fn limit_read(&mut self) -> io::Result<()>
+        ensures come { self.new.come ≡ self.old.come }
+        ensures patience { self.new.patience ≡ self.old.patience }
+    {
         let Some(whole) = self.patience.request else {
             return Ok(());
         };
@@ -120,6 +125,7 @@ impl<'v, R: Clock> Visit<'v, R> {
     fn begin(&mut self)
         ensures come { self.new.come ≡ self.old.come }
         ensures asked { self.new.is_asked ≡ self.old.is_asked }
+        ensures patience { self.new.patience ≡ self.old.patience }
     {
         self.began = match self.patience.request {
             Some(_) => Instant::now(self.rt).ok(),
@@ -132,6 +138,7 @@ impl<'v, R: Clock> Visit<'v, R> {
     fn note_answer(&mut self, is_interim: bool)
         ensures come { self.new.come ≡ (if is_interim then self.old.come else 0) }
         ensures asked { self.new.is_asked ≡ is_interim }
+        ensures patience { self.new.patience ≡ self.old.patience }
     {
         self.is_asked = is_interim;
         if is_interim {
@@ -144,8 +151,10 @@ impl<'v, R: Clock> Visit<'v, R> {
 
     /// Counts what a read brought. False where the request has more bytes than it may.
     fn note_read(&mut self, count: u64) -> bool
-        ensures come { self.new.come ≡ min (self.old.come + count) (2 ^ 64 - 1) }
+        ensures come { self.new.come ≡ come_with self.old.come count }
         ensures within { result ≡ is_within self.new.come self.old.patience.bytes }
+        ensures asked { self.new.is_asked ≡ self.old.is_asked }
+        ensures patience { self.new.patience ≡ self.old.patience }
     {
         self.come = self.come.saturating_add(count);
         match self.patience.bytes {
@@ -156,7 +165,20 @@ impl<'v, R: Clock> Visit<'v, R> {
 }
 
 impl<R: Clock> Read for Visit<'_, R> {
-    fn read(&mut self, buf: &mut [u8]) -> io::Result<usize> {
+    fn read(&mut self, buf: &mut [u8]) -> io::Result<usize>
+        // It reads as any reader does.
+        ensures bound { ReadsAtMost result buf.new }
+        ensures bytes { ReadConsumes None None result buf.new }
+
+        // What comes is of a request, and counts as such: of one that has more than it may nothing more is given.
+        ensures asked { IfOk result (λ n. 0 < n → self.new.is_asked ≡ true) }
+        ensures come { IfOk result (λ n. self.new.come ≡ come_with self.old.come n) }
+        ensures within { IfOk result (λ n. 0 < n
+            → is_within self.new.come self.old.patience.bytes ≡ true) }
+
+        // What it may stays the same.
+        ensures patience { self.new.patience ≡ self.old.patience }
+    {
         if !self.is_asked && self.signals.is_over() {
             return Ok(0);
         }
@@ -175,12 +197,36 @@ impl<R: Clock> Read for Visit<'_, R> {
 }
 
 impl<R: Clock> Write for Visit<'_, R> {
-    fn write(&mut self, buf: &[u8]) -> io::Result<usize> {
-        self.note_answer(buf.starts_with(INTERIM));
+    fn write(&mut self, buf: &[u8]) -> io::Result<usize>
+        // It writes as any writer does.
+        ensures bound { WritesAtMost result buf.now }
+        ensures bytes { WriteAppends None None result buf.now }
+
+        // Behind an interim answer the same request goes on, and behind any other bytes another begins, also where they
+        // couldn't be written.
+        ensures asked { self.new.is_asked ≡ is_interim buf.now }
+        ensures come { self.new.come ≡ (if is_interim buf.now then self.old.come else 0) }
+
+        // What it may stays the same.
+        ensures patience { self.new.patience ≡ self.old.patience }
+    {
+        self.note_answer(is_interim(buf));
         self.stream.write(buf)
     }
 
-    fn flush(&mut self) -> io::Result<()> {
+    fn flush(&mut self) -> io::Result<()>
+        ensures bytes { Keeps None None }
+        ensures asked { self.new.is_asked ≡ self.old.is_asked }
+        ensures come { self.new.come ≡ self.old.come }
+        ensures patience { self.new.patience ≡ self.old.patience }
+    {
         self.stream.flush()
     }
+}
+
+/// Whether bytes begin an answer that is no reply.
+fn is_interim(bytes: &[u8]) -> bool
+    ensures { result ≡ is_interim bytes.now }
+{
+    bytes.starts_with(INTERIM)
 }
