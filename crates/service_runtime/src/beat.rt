@@ -1,5 +1,7 @@
 //! The moment, pauses, and what threads tell one another of the service's course.
 
+ghost use Rattle.std.specs.Prelude.{◌≡◌, IfOk};
+
 use crate::body_memory::BodyMemory;
 use crate::gates::Gates;
 use crate::large_bodies::LargeBodies;
@@ -40,7 +42,9 @@ impl Signals {
         shards: usize,
         senders: u32,
         body_memory: Option<u64>,
-    ) -> Result<Signals, AllocError> {
+    ) -> Result<Signals, AllocError>
+        ensures { IfOk result (λ signals. signals.body_memory.most ≡ body_memory) }
+    {
         Ok(Signals {
             here: AtomicUsize::new(0),
             end_asked: AtomicBool::new(false),

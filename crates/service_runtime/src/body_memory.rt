@@ -19,7 +19,9 @@ pub struct BodyMemory {
 
 impl BodyMemory {
     /// Nothing is claimed.
-    pub(crate) fn new(most: Option<u64>) -> BodyMemory {
+    pub(crate) fn new(most: Option<u64>) -> BodyMemory
+        ensures { result.most ≡ most }
+    {
         BodyMemory {
             most,
             claimed: AtomicU64::new(0),

@@ -103,6 +103,8 @@ impl<J: Naming> Workplace<J> {
     ) -> Result<Workplace<J>, AllocError>
         ensures hub { IfOk result (λ w. w.hub ≡ hub) }
         ensures lane { IfOk result (λ w. w.lane ≡ lane) }
+        ensures body_memory { IfOk result (λ w. w.signals.body_memory.most
+            ≡ limits.now.body_memory) }
     {
         let signals = Signals::new(alloc, hub.shards(), limits.senders, limits.body_memory)?;
         Ok(Workplace {
