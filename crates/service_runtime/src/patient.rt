@@ -1,5 +1,7 @@
 //! Back ends that are posted to once there is memory for a post.
 
+ghost use Rattle.std.specs.Prelude.{◌≡◌};
+
 use crate::beat::Signals;
 use crate::teller::Teller;
 use export_edge::BackEnd;
@@ -32,7 +34,9 @@ impl<'h, B: BackEnd, R: Wait + Clock> PatientBackEnd<'h, B, R> {
         alloc: Global,
         signals: &'h Signals,
         back_end: B,
-    ) -> PatientBackEnd<'h, B, R> {
+    ) -> PatientBackEnd<'h, B, R>
+        ensures { result.back_end ≡ back_end }
+    {
         PatientBackEnd {
             rt,
             alloc,
