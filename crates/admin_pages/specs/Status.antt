@@ -1,6 +1,6 @@
--- Statuses under which requests are counted: those that a client is told where spans come in (RFC 9110, section 15, and
--- RFC 6585, sections 4 and 5).
-use Rattle.std.specs.Prelude.{ℕ, ◌==◌, ◌+◌, List, [], ◌∷◌, ◌++◌, length, map, slice_index_or, if◌then◌else◌, codes, decimal}
+-- Statuses under which requests are counted, those that a client is told where spans come in (RFC 9110, section 15, and
+-- RFC 6585, sections 4 and 5); and classes of statuses under which answers of back ends are.
+use Rattle.std.specs.Prelude.{ℕ, ◌==◌, ◌+◌, ◌/◌, List, [], ◌∷◌, ◌++◌, length, map, slice_index_or, if◌then◌else◌, codes, decimal}
 
 -- These statuses. A message that is none is told 400, 413 or 431, and one for no tenant 403, 404, 405 or 415. A body is
 -- told 200, 429 or 503, and one without a value 400. Where memory is refused, 503 is told.
@@ -15,6 +15,16 @@ place_among (first ∷ rest) status = if status == first then 0 else place_among
 -- in which count a request is that was answered with a status: each of these has its own, and all others have the last
 abbrev pub status_place : ℕ → ℕ
 status_place status = place_among told_statuses status
+
+-- the first digits of the classes that have counts of their own: of success, of a client's error and of a server's
+-- error (RFC 9110, section 15)
+abbrev pub counted_classes : List ℕ
+counted_classes = 2 ∷ 4 ∷ 5 ∷ []
+
+-- in which count an answer of a back end is that has a status: each of these classes has its own, and all others have
+-- the last
+abbrev pub class_place : ℕ → ℕ
+class_place status = place_among counted_classes (status / 100)
 
 -- the count there, with the value of its label: the status in decimal
 abbrev pub count_under : List ℕ → ℕ → List ℕ × ℕ

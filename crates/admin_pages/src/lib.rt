@@ -29,7 +29,7 @@ pub use crate::report::read_report;
 pub use crate::route::{AdminRoute, admin_route};
 pub use crate::service::{ServiceCounts, ServiceFigures, StatusCounts, put_service};
 pub use crate::settings::put_settled_tenant;
-pub use crate::status::{STATUS_COUNTS, status_place};
+pub use crate::status::{CLASS_COUNTS, STATUS_COUNTS, class_place, status_place};
 pub use crate::tenant_metric::{MetricKind, TenantMetric};
 pub use crate::token::same_token;
 

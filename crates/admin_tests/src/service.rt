@@ -1,7 +1,8 @@
 //! Figures of a whole service as a scraper reads them.
 
 use admin_pages::{
-    STATUS_COUNTS, ServiceCounts, ServiceFigures, StatusCounts, put_service, status_place,
+    STATUS_COUNTS, ServiceCounts, ServiceFigures, StatusCounts, class_place, put_service,
+    status_place,
 };
 use std::alloc::Global;
 use std::process::Abort;
@@ -149,6 +150,16 @@ fn each_status_is_counted_under_its_label(rt: HostRuntime) {
     is_counted(&rt, alloc, 401, "other");
     is_counted(&rt, alloc, 500, "other");
     is_counted(&rt, alloc, u16::MAX, "other");
+}
+
+#[test]
+fn each_class_has_its_place(rt: HostRuntime) {
+    assert!(rt; class_place(200) == 0 && class_place(299) == 0);
+    assert!(rt; class_place(400) == 1 && class_place(499) == 1);
+    assert!(rt; class_place(500) == 2 && class_place(599) == 2);
+    assert!(rt; class_place(0) == 3 && class_place(199) == 3);
+    assert!(rt; class_place(301) == 3 && class_place(600) == 3);
+    assert!(rt; class_place(u16::MAX) == 3);
 }
 
 #[test]

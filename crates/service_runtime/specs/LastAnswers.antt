@@ -1,6 +1,16 @@
 -- What tenants' back ends answered last, as it is kept. This project's own rule.
 use Rattle.std.specs.Prelude.{◌≡◌, ℕ, ◌+◌, ◌-◌, ◌*◌, ◌/◌, ◌%◌, ◌^◌, ◌==◌, ◌&&◌, Bool, Option, Some, None, min, nat_lt, if◌then◌else◌}
 use Rattle.admin_pages.specs.declared.figures.LastAnswer.{LastAnswer}
+use Rattle.send_retry.specs.Class.{AnswerData, Http, Failed}
+
+-- the status that is noted of an answer: 0 where no whole one came
+abbrev pub noted_status : AnswerData → ℕ
+noted_status (Http status retry_after body) = status
+noted_status Failed = 0
+
+-- what is noted of an answer to a job that was handed in at this moment
+abbrev pub noted_of : AnswerData → ℕ → LastAnswer
+noted_of answer moment = record { status = noted_status answer; moment = moment }
 
 -- there are so many words, and a tenant's is the one at its number modulo this
 abbrev pub words : ℕ

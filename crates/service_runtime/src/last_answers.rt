@@ -1,7 +1,8 @@
 //! What tenants' back ends answered last, for the admin port.
 
 ghost use Rattle.std.specs.Prelude.{◌≡◌};
-ghost use Rattle.service_runtime.specs.LastAnswers.{IsAnswered, answer_in, word_of};
+ghost use Rattle.send_retry.specs.Class.{answer_view};
+ghost use Rattle.service_runtime.specs.LastAnswers.{IsAnswered, answer_in, noted_of, word_of};
 
 use admin_pages::LastAnswer;
 use send_retry::Answer;
@@ -37,12 +38,8 @@ impl LastAnswers {
 
     /// This tenant's back end answered this, at this moment in milliseconds since the start.
     pub fn note(&self, tenant: u32, moment: u64, answer: &Answer) {
-        let status = match answer {
-            Answer::Http { status, .. } => *status,
-            Answer::Failed => 0,
-        };
         if let Some(word) = self.word(tenant) {
-            let noted = word_of(tenant, &LastAnswer { status, moment });
+            let noted = word_of(tenant, &last_answer(answer, moment));
             word.store(noted, Ordering::SeqCst);
         }
     }
@@ -62,6 +59,17 @@ impl LastAnswers {
     fn word(&self, tenant: u32) -> Option<&AtomicU64> {
         self.words.get((tenant % WORDS) as usize)
     }
+}
+
+/// What is noted of an answer that came at this moment.
+fn last_answer(answer: &Answer, moment: u64) -> LastAnswer
+    ensures { result ≡ noted_of (answer_view answer.now) moment }
+{
+    let status = match answer {
+        Answer::Http { status, .. } => *status,
+        Answer::Failed => 0,
+    };
+    LastAnswer { status, moment }
 }
 
 /// A tenant's answer as a word.

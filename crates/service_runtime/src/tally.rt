@@ -1,6 +1,8 @@
 //! What threads count of what they do, for the admin port.
 
-use admin_pages::{STATUS_COUNTS, ServiceCounts, StatusCounts, status_place};
+use admin_pages::{
+    CLASS_COUNTS, STATUS_COUNTS, ServiceCounts, StatusCounts, class_place, status_place,
+};
 use export_edge::TurnResult;
 use send_retry::{Answer, Verdict, classify};
 use std::array;
@@ -58,38 +60,28 @@ impl RequestTally {
 /// How many answers of back ends there were of each class of HTTP's statuses.
 #[derive(Drop)]
 struct StatusTally {
-    success: Count,
-    client_error: Count,
-    server_error: Count,
-    other: Count,
+    // Each at its class's place.
+    counts: [Count; CLASS_COUNTS],
 }
 
 impl StatusTally {
     fn new() -> StatusTally {
         StatusTally {
-            success: Count::new(),
-            client_error: Count::new(),
-            server_error: Count::new(),
-            other: Count::new(),
+            counts: array::from_fn(|_| Count::new()),
         }
     }
 
     fn note(&self, status: u16) {
-        let count = match status {
-            200..300 => &self.success,
-            400..500 => &self.client_error,
-            500..600 => &self.server_error,
-            _ => &self.other,
-        };
-        count.add(1);
+        self.counts[class_place(status)].add(1);
     }
 
     fn counts(&self) -> StatusCounts {
+        let [success, client_error, server_error, other] = &self.counts;
         StatusCounts {
-            success: self.success.get(),
-            client_error: self.client_error.get(),
-            server_error: self.server_error.get(),
-            other: self.other.get(),
+            success: success.get(),
+            client_error: client_error.get(),
+            server_error: server_error.get(),
+            other: other.get(),
         }
     }
 }
