@@ -1,7 +1,7 @@
 -- Each figure of a tenant has its word and its metric's name, and each family of the page its own name, which shows its
--- kind: the lists are gone through.
+-- kind, and no help needs an escape: the lists are gone through.
 use Rattle.std.proofs.Common.{refl}
-use Rattle.admin_pages.specs.Law.{EachHasItsName, EachHasItsWord, NamesAreUnique, NamesShowKinds}
+use Rattle.admin_pages.specs.Law.{EachHasItsName, EachHasItsWord, NamesAreUnique, NamesShowKinds, ServiceHelpsArePlain, TenantHelpsArePlain}
 use Rattle.admin_pages.specs.declared.tenant_metric.TenantMetric.TheVariants.{Accepted, Undecided, Pending, Queued, Active, Exported, NotSampled, TooEarly, QueueFull, RetryExhausted, BackEndRefused, BackEndRejected, Invalid, OverBudget, Rows, UndecidedRows, RowsLimit, SpansLimit, QueuedBatches, QueuedBatchesLimit, QueuedBytes, QueuedBytesLimit, Ready, BackEndStatus, BackEndStatusMoment}
 
 pub each_has_its_word : EachHasItsWord
@@ -63,3 +63,33 @@ names_are_unique f = refl
 
 pub names_show_kinds : NamesShowKinds
 names_show_kinds f = refl
+
+pub tenant_helps_are_plain : TenantHelpsArePlain
+tenant_helps_are_plain Accepted = refl
+tenant_helps_are_plain Undecided = refl
+tenant_helps_are_plain Pending = refl
+tenant_helps_are_plain Queued = refl
+tenant_helps_are_plain Active = refl
+tenant_helps_are_plain Exported = refl
+tenant_helps_are_plain NotSampled = refl
+tenant_helps_are_plain TooEarly = refl
+tenant_helps_are_plain QueueFull = refl
+tenant_helps_are_plain RetryExhausted = refl
+tenant_helps_are_plain BackEndRefused = refl
+tenant_helps_are_plain BackEndRejected = refl
+tenant_helps_are_plain Invalid = refl
+tenant_helps_are_plain OverBudget = refl
+tenant_helps_are_plain Rows = refl
+tenant_helps_are_plain UndecidedRows = refl
+tenant_helps_are_plain RowsLimit = refl
+tenant_helps_are_plain SpansLimit = refl
+tenant_helps_are_plain QueuedBatches = refl
+tenant_helps_are_plain QueuedBatchesLimit = refl
+tenant_helps_are_plain QueuedBytes = refl
+tenant_helps_are_plain QueuedBytesLimit = refl
+tenant_helps_are_plain Ready = refl
+tenant_helps_are_plain BackEndStatus = refl
+tenant_helps_are_plain BackEndStatusMoment = refl
+
+pub service_helps_are_plain : ServiceHelpsArePlain
+service_helps_are_plain f = refl

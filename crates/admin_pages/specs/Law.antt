@@ -1,10 +1,11 @@
--- What the definitions of Route come to for a tenant's path, and those of TenantMetric for the lists of all figures,
--- told as a whole: laws of this project's own rules.
-use Rattle.std.specs.Prelude.{◌≡◌, ◌≢◌, ◌↔◌, ◌⊎◌, ◌++◌, ◌∷◌, ◌-◌, ◌&&◌, ℕ, Bool, true, List, [], codes, filter, map, length, drop, is_none, find, not, None}
+-- What the definitions of Route come to for a tenant's path, and those of TenantMetric and Service for the lists of all
+-- figures and families, told as a whole: laws of this project's own rules, and of the format's where it is named.
+use Rattle.std.specs.Prelude.{◌≡◌, ◌≢◌, ◌↔◌, ◌⊎◌, ◌++◌, ◌∷◌, ◌-◌, ◌==◌, ◌&&◌, ◌||◌, ℕ, Bool, true, List, [], codes, filter, map, length, drop, is_none, find, not, None}
+use Rattle.std.specs.List.{list_all, list_any}
 use Rattle.std.specs.Str.{bytes_eq}
 use Rattle.admin_pages.specs.Route.{Tenant, Retire, route_of}
-use Rattle.admin_pages.specs.Service.{service_families}
-use Rattle.admin_pages.specs.TenantMetric.{all_counters, all_others, kind_of, metric_of, word_of}
+use Rattle.admin_pages.specs.Service.{service_families, service_helps}
+use Rattle.admin_pages.specs.TenantMetric.{all_counters, all_others, help_of, kind_of, metric_of, word_of}
 use Rattle.admin_pages.specs.declared.service.ServiceFigures.{ServiceFigures}
 use Rattle.admin_pages.specs.declared.tenant_metric.MetricKind.{MetricKind}
 use Rattle.admin_pages.specs.declared.tenant_metric.MetricKind.TheVariants.{Counter, Gauge}
@@ -64,3 +65,16 @@ NamesAreUnique = (f : ServiceFigures) → have_own_names (page_families f) ≡ t
 -- and one that ends in `_total` exactly where it is a counter's (OpenMetrics 1.0, of counters' samples)
 abbrev pub NamesShowKinds : Type 0
 NamesShowKinds = (f : ServiceFigures) → find (λ family. not (is_named_by_kind family)) (page_families f) ≡ None
+
+-- whether a help text has none of the two bytes that its line escapes, the line feed and the backslash (Prometheus'
+-- text format 0.0.4)
+abbrev pub is_plain_help : List ℕ → Bool
+is_plain_help help = not (list_any (λ byte. byte == 10 || byte == 92) help)
+
+-- each help text of tenants' metrics is such a one
+abbrev pub TenantHelpsArePlain : Type 0
+TenantHelpsArePlain = (figure : TenantMetric) → is_plain_help (help_of figure) ≡ true
+
+-- and each of the whole service's
+abbrev pub ServiceHelpsArePlain : Type 0
+ServiceHelpsArePlain = (f : ServiceFigures) → list_all is_plain_help (service_helps f) ≡ true

@@ -84,10 +84,26 @@ requests_family = (codes "nimchaes_requests_total", Counter)
 abbrev pub answers_family : List ℕ × MetricKind
 answers_family = (codes "nimchaes_back_end_answers_total", Counter)
 
+-- what a scraper is told that the first of these four is
+abbrev pub memory_help : List ℕ
+memory_help = codes "Bytes of memory that the process has"
+
+-- what it is told of the version
+abbrev pub build_help : List ℕ
+build_help = codes "The version that runs"
+
+-- of the requests
+abbrev pub requests_help : List ℕ
+requests_help = codes "Requests that were answered by their status"
+
+-- and of the answers of back ends
+abbrev pub answers_help : List ℕ
+answers_help = codes "Answers of back ends by their status"
+
 -- the memory that the process has, where that is known
 abbrev pub memory_text : Option ℕ → List ℕ
 memory_text (Some bytes) =
-    measure_text memory_family.0 (codes "Bytes of memory that the process has") memory_family.1 bytes
+    measure_text memory_family.0 memory_help memory_family.1 bytes
 memory_text None = []
 
 -- a figure for each class of HTTP's statuses
@@ -104,19 +120,19 @@ answers_of counts failed = (codes "none", failed) ∷ classes_of counts
 -- what is told of the version that runs
 abbrev pub build_text : List ℕ → List ℕ
 build_text version =
-    measures_text build_family.0 (codes "The version that runs") build_family.1 (codes "version") ((version, 1) ∷ [])
+    measures_text build_family.0 build_help build_family.1 (codes "version") ((version, 1) ∷ [])
 
 -- the requests that were answered, by their statuses, under the label that Prometheus' own server and clients have for
 -- these
 abbrev pub requests_text : List ℕ → List ℕ
 requests_text counts =
-    measures_text requests_family.0 (codes "Requests that were answered by their status") requests_family.1
+    measures_text requests_family.0 requests_help requests_family.1
     (codes "code") (counts_by_status counts)
 
 -- the answers of back ends, by their statuses
 abbrev pub answers_text : StatusCounts → ℕ → List ℕ
 answers_text counts failed =
-    measures_text answers_family.0 (codes "Answers of back ends by their status") answers_family.1 (codes "class")
+    measures_text answers_family.0 answers_help answers_family.1 (codes "class")
     (answers_of counts failed)
 
 -- the names and the kinds of families of one sample
@@ -128,6 +144,16 @@ abbrev pub service_families : ServiceFigures → List (List ℕ × MetricKind)
 service_families f =
     build_family ∷ families_named (standing_of f) ++ memory_family ∷ families_named (receiving_of f)
     ++ requests_family ∷ families_named (sending_of f) ++ answers_family ∷ []
+
+-- the help texts of families of one sample
+abbrev pub helps_in : List MeasureData → List (List ℕ)
+helps_in ms = map (λ m. m.help) ms
+
+-- those of all families
+abbrev pub service_helps : ServiceFigures → List (List ℕ)
+service_helps f =
+    build_help ∷ helps_in (standing_of f) ++ memory_help ∷ helps_in (receiving_of f)
+    ++ requests_help ∷ helps_in (sending_of f) ++ answers_help ∷ []
 
 -- all figures
 unfoldable pub service_text : ServiceFigures → List ℕ

@@ -9,7 +9,7 @@
 //! counters are; numbers are spelled by the library's `itoa`.
 #![tactic(auto)]
 
-ghost use Rattle.admin_pages.specs.Law.{EachHasItsName, EachHasItsWord, NamesAreUnique, NamesShowKinds, TenantsAreRead, TenantsAreRetired};
+ghost use Rattle.admin_pages.specs.Law.{EachHasItsName, EachHasItsWord, NamesAreUnique, NamesShowKinds, ServiceHelpsArePlain, TenantHelpsArePlain, TenantsAreRead, TenantsAreRetired};
 
 mod figures;
 mod json;
@@ -52,4 +52,11 @@ pub fn each_figure_is_told_once()
 pub fn names_are_unique()
     ensures unique { NamesAreUnique }
     ensures kinds { NamesShowKinds }
+{}
+
+/// No help text on that page has a line feed or a backslash, so each stands in its line as it is: a law over the
+/// definitions.
+pub fn helps_need_no_escape()
+    ensures tenants { TenantHelpsArePlain }
+    ensures service { ServiceHelpsArePlain }
 {}
