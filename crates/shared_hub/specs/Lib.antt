@@ -1,2 +1,3 @@
 pub mod Shards
 pub mod Logs
+pub mod Fault

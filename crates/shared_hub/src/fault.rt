@@ -17,12 +17,27 @@ pub enum HubFault {
     /// more entries.
     #[error("out of memory")]
     OutOfMemory,
-    /// A shard's log has no more than so many entries, and the caller has a receipt of one behind them: number 27.
+    /// A shard's log has no more than so many entries, and the caller has a receipt of one behind them.
     #[error("the log has {entries} entries")]
     Behind { entries: u64 },
-    /// The entry of a receipt is another call's: number 28.
+    /// The entry of a receipt is another call's.
     #[error("another entry")]
     OtherEntry { receipt: Receipt },
+}
+
+impl HubFault {
+    ghost use Rattle.shared_hub.specs.Fault.{fault_number};
+
+    /// The fault's number, 27 or 28. Want of memory has none.
+    pub fn number(self) -> Option<u32>
+        ensures { result ≡ fault_number self }
+    {
+        match self {
+            HubFault::OutOfMemory => None,
+            HubFault::Behind { .. } => Some(27),
+            HubFault::OtherEntry { .. } => Some(28),
+        }
+    }
 }
 
 impl From<AllocError> for HubFault {
@@ -33,10 +48,19 @@ impl From<AllocError> for HubFault {
     }
 }
 
-/// Not all callers came: the refusal with the number 24. All is handed back.
+/// Not all callers came. All is handed back.
 #[derive(Drop)]
 pub struct CallersMissing {
     pub hub: SharedHub,
     pub keeper: HubKeeper,
     pub callers: Vec<Caller>,
+}
+
+impl CallersMissing {
+    /// The refusal's number.
+    pub fn number(&self) -> u32
+        ensures { result ≡ 24 }
+    {
+        24
+    }
 }

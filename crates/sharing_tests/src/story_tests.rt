@@ -8,7 +8,7 @@ use crate::outcomes::{is_entry, is_outcome, is_waiting};
 use crate::story::{Line, SETTINGS, STORY, line_of};
 use audit_log::PackedEntry;
 use decision_cache::HashKeys;
-use shared_hub::{Caller, HubKeeper, Receipt, ShardLog, SharedHub};
+use shared_hub::{Caller, HubFault, HubKeeper, Receipt, ShardLog, SharedHub};
 use std::alloc::Global;
 use std::process::Abort;
 use std::sync::Wait;
@@ -196,7 +196,7 @@ fn is_first(made: Option<Made>) -> bool {
     }
 }
 
-/// Whether a hub isn't closed without its caller, whose turn is its first call then.
+/// Whether a hub isn't closed without its caller (24), whose turn is its first call then.
 fn is_kept_open<R: Wait>(
     rt: &R,
     alloc: Global,
@@ -211,7 +211,7 @@ fn is_kept_open<R: Wait>(
         Ok(_shards) => false,
         Err(missing) => {
             let turn = Step::Turn { now: 0 };
-            is_first(stepped(rt, alloc, &missing.hub, away, 1, turn))
+            is_first(stepped(rt, alloc, &missing.hub, away, 1, turn)) && missing.number() == 24
         }
     }
 }
@@ -228,4 +228,16 @@ fn is_new_kept_open<R: Wait + Abort>(rt: &R, alloc: Global, settings: &Settings)
 fn a_missing_caller_keeps_the_hub_open(rt: HostRuntime) {
     let settings = load(rt.alloc(), SETTINGS).expect(&rt, "good settings");
     assert!(rt; is_new_kept_open(&rt, rt.alloc(), &settings));
+}
+
+/// A log that lost entries, an entry that is another call's, and want of memory, which has no number.
+#[test]
+fn faults_have_their_numbers(rt: HostRuntime) {
+    let receipt = Receipt {
+        shard: 0,
+        position: 0,
+    };
+    assert!(rt; HubFault::Behind { entries: 0 }.number() == Some(27));
+    assert!(rt; HubFault::OtherEntry { receipt }.number() == Some(28));
+    assert!(rt; HubFault::OutOfMemory.number() == None);
 }
