@@ -1,4 +1,5 @@
 mod Texts
+mod Paths
 mod Names
 mod Plain
 mod Cases

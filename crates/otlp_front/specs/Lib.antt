@@ -1,4 +1,5 @@
 pub mod Target
+pub mod Law
 pub mod Fields
 pub mod Route
 pub mod Seen
