@@ -13,6 +13,10 @@ const NAP: u64 = 1;
 /// look some sixty times a second, so that a ring that nobody heard costs little.
 const LOOK: u64 = 16;
 
+/// So many milliseconds may go by until a turner looks for what is due by the time alone, unless it is rung: what falls
+/// due about then shares its wake, and senders find one job behind another.
+const GATHERED: u64 = 20;
+
 /// Who makes chores rests so many times as long as what it tried took.
 const CHORE_REST: u64 = 4;
 
@@ -167,14 +171,15 @@ impl<'b> Rest<'b> {
     }
 
     /// Pauses: for long only where it found no work and nothing was rung since it looked, and a turner for no longer
-    /// than so many milliseconds are left until something is due. Where its bell was rung since its last pause a
-    /// turner's begins with a short one that no ring cuts off, so that many rings don't make many turns. What was tried
-    /// since the moment was asked for, or since the last pause, took so many milliseconds.
+    /// than so many milliseconds are left until something is due, or than what is due then may wait for a turn. Where
+    /// its bell was rung since its last pause a turner's begins with a short one that no ring cuts off, so that many
+    /// rings don't make many turns. What was tried since the moment was asked for, or since the last pause, took so
+    /// many milliseconds.
     pub fn pause<R: Wait + Clock>(&mut self, rt: &R, took: u64, left: u64) {
         match self.place {
             Place::Shard { bell, bells } if self.is_timed => {
-                let longest = share_of(bells.shards.len() as u64).min(left);
-                self.pause_at(rt, bell, longest.max(NAP));
+                let longest = share_of(bells.shards.len() as u64).min(left.max(GATHERED));
+                self.pause_at(rt, bell, longest);
             }
             Place::Lane(bells) if !self.is_timed => {
                 let longest = share_of(u64::from(bells.senders));
