@@ -1,6 +1,6 @@
 //! The word `serve`.
 
-ghost use Rattle.std.specs.Prelude.{codes, ◌≡◌, ◌↔◌, Ok, IfErr, IfSome, None, option_copied, option_map};
+ghost use Rattle.std.specs.Prelude.{codes, ◌≡◌, ◌↔◌, Ok, IfErr, IfSome, None, option_copied, option_map, unwrap_or};
 ghost use Rattle.std.specs.Duration.{as_nanos};
 ghost use Rattle.trace_collector_program.specs.Fault.{of_service};
 ghost use Rattle.trace_collector_program.specs.Reason.{TellsOf};
@@ -159,7 +159,11 @@ fn give_back_at_once(alloc: Global) {
 }
 
 /// The threads that hold a connection each, by settings and options.
-fn thread_counts(global: &GlobalSettings, options: &ServeOptions<'_>) -> ThreadCounts {
+fn thread_counts(global: &GlobalSettings, options: &ServeOptions<'_>) -> ThreadCounts
+    ensures receivers { result.receivers ≡ unwrap_or options.now.connections global.now.receivers }
+    ensures senders { result.senders ≡ unwrap_or options.now.senders global.now.senders }
+    ensures admins { result.admins ≡ option_map (λ _. ADMINS) options.now.admin }
+{
     ThreadCounts {
         receivers: options.connections.unwrap_or(global.receivers),
         senders: options.senders.unwrap_or(global.senders),
