@@ -1,8 +1,9 @@
 -- The token that the admin port asks for. A bearer token is of few characters, with `=` at its end
 -- alone (RFC 6750, 2.1, `b64token`): so each client can send it, and no other text can be meant.
-use Rattle.std.specs.Prelude.{ℕ, ◌-◌, List, [], ◌∷◌, length, take, drop, Bool, true, false, ◌&&◌, ◌||◌, not, ◌==◌, nat_le, if◌then◌else◌}
+use Rattle.std.specs.Prelude.{◌≡◌, ℕ, ◌-◌, ◌≤◌, List, [], ◌∷◌, length, take, drop, Bool, true, false, ◌&&◌, ◌||◌, not, ◌==◌, Option, Some, None, Ok, if◌then◌else◌}
 use Rattle.std.specs.Char.{is_ascii_alphanumeric}
 use Rattle.std.specs.Str.{bytes_eq}
+use Rattle.service_runtime.specs.Documents.{Reads}
 
 -- a letter, a digit, or one of - . _ ~ + /
 abbrev pub is_token_byte : ℕ → Bool
@@ -32,3 +33,18 @@ without_last byte text =
 -- a text without the end of its line, if it has one there: a line feed, and a carriage return before it
 abbrev pub without_end : List ℕ → List ℕ
 without_end text = without_last 13 (without_last 10 text)
+
+-- the token that is in the file at a path: all that was read there, but for the end of its line
+pub record IsTokenAt (reads : Reads) (path token : List ℕ) : Type 0 where
+  pub bytes : List ℕ
+  pub read : reads path (Ok bytes)
+  pub whole : token ≡ without_end bytes
+  pub sound : is_token token ≡ true
+  pub long : shortest_token ≤ length token
+
+-- the token that a port asks for: that in the file that is named, and none where none is
+abbrev pub IsPortToken : Reads → Option (List ℕ) → Option (List ℕ) → Type 0
+IsPortToken reads (Some path) (Some token) = IsTokenAt reads path token
+IsPortToken reads (Some path) None = ⊥
+IsPortToken reads None (Some token) = ⊥
+IsPortToken reads None None = Unit {0}

@@ -1,9 +1,10 @@
 //! The service's admin port.
 
-ghost use Rattle.std.specs.Prelude.{◌≡◌, ◌⊎◌, ◌≤◌, ◌<◌, false, IfErr, IfOk, IsTrue, OnOk, OnErr, length, string_bytes};
+ghost use Rattle.std.specs.Prelude.{◌≡◌, ◌⊎◌, ◌≤◌, ◌<◌, false, true, Err, IfErr, IfOk, IfSome, IsTrue, None, OnOk, OnErr, is_some, length, option_map, string_bytes};
 ghost use Rattle.trace_collector_program.specs.Fault.{IsOutside};
 ghost use Rattle.trace_collector_program.specs.Reason.{IsAdded, TellsOf, reason_line};
-ghost use Rattle.trace_collector_program.specs.Token.{is_token_byte, goes_on, is_token, shortest_token, without_last, without_end};
+ghost use Rattle.trace_collector_program.specs.Task.{options_view};
+ghost use Rattle.trace_collector_program.specs.Token.{IsPortToken, IsTokenAt, is_token_byte, goes_on, is_token, shortest_token, without_last, without_end};
 ghost use Rattle.trace_collector_program.specs.declared.ProgramFault.TheVariants as faults;
 ghost use Rattle.trace_collector.specs.declared.engine.ReplayFault.TheVariants as replay_faults;
 
@@ -11,6 +12,7 @@ use crate::reason::Reason;
 use crate::start::listen_at;
 use crate::task::ServeOptions;
 use crate::{ProgramFault, read_file};
+use service_runtime::Documents;
 use std::fs::File;
 use std::net::{Net, TcpListener, TcpStream};
 use std::rt::Files;
@@ -45,7 +47,16 @@ pub fn admin_door<R>(
     reason: &mut Reason,
 ) -> Result<Option<AdminDoor>, ProgramFault>
 where
-    R: Files<File = File> + AllocGlobal + Net<Listener = TcpListener, Stream = TcpStream>,
+    R: Files<File = File>
+        + AllocGlobal
+        + Net<Listener = TcpListener, Stream = TcpStream>
+        + Documents,
+    ensures asked { IfOk result (λ door. is_some door ≡ is_some options.now.admin) }
+    ensures token { IfOk result (λ door. IfSome door (λ door. IsPortToken R.reads
+        (options_view options.now).admin_token_file
+        (option_map (λ token. token.items) door.token))) }
+    ensures alone { options.now.admin ≡ None → is_some options.now.admin_token_file ≡ true
+        → result ≡ Err faults.Usage }
 {
     let Some(address) = options.admin else {
         return match options.admin_token_file {
@@ -86,13 +97,12 @@ fn is_loopback(listener: &TcpListener) -> bool {
 
 /// The token in a file, without the end of its line. What no client could send as one, or would not as it is meant, is
 /// a fault.
-fn token_of_file(
-    rt: &(impl Files + AllocGlobal),
+fn token_of_file<R: Documents + AllocGlobal>(
+    rt: &R,
     path: &str,
     reason: &mut Reason,
 ) -> Result<Vec<u8>, ProgramFault>
-    ensures token { IfOk result (λ token. IsTrue (is_token token.items)) }
-    ensures long { IfOk result (λ token. shortest_token ≤ length token.items) }
+    ensures token { IfOk result (λ token. IsTokenAt R.reads path.now token.items) }
     ensures fault { IfErr result IsOutside }
     ensures told { reason.new.is_told ≡ reason.old.is_told }
     ensures line { OnErr result (TellsOf path.now reason.old reason.new) }

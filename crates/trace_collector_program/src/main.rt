@@ -24,7 +24,7 @@ mod start;
 mod task;
 mod watched;
 
-ghost use Rattle.std.specs.Prelude.{◌≡◌, ℕ, List, IfSome, IfOk, IfErr, OnOk, OnErr, string_bytes};
+ghost use Rattle.std.specs.Prelude.{◌≡◌, ℕ, List, IfSome, IfOk, IfErr, Ok, OnOk, OnErr, string_bytes};
 ghost use Rattle.std.specs.Io.KnownBytes.{Appends};
 ghost use Rattle.std.specs.IoError.{error_kind};
 ghost use Rattle.std.specs.Process.{exit_status};
@@ -50,7 +50,7 @@ use std::rt::{Env, Files};
 use std::sync::Wait;
 use std::thread::Threads;
 use std::time::Clock;
-use std::{env, fs, io};
+use std::{env, io};
 use tail_settings::SettingsFault;
 use task::{HELP, Task, VERSION, asked_task};
 use thiserror::Error;
@@ -192,17 +192,18 @@ fn of_arguments(error: io::Error) -> ProgramFault
 }
 
 /// A file's bytes.
-fn read_file(
-    rt: &(impl Files + AllocGlobal),
+fn read_file<R: Documents + AllocGlobal>(
+    rt: &R,
     path: &str,
     reason: &mut Reason,
 ) -> Result<Vec<u8>, ProgramFault>
+    ensures bytes { IfOk result (λ bytes. R.reads path.now (Ok bytes.items)) }
     ensures fault { IfErr result IsOutside }
     ensures told { reason.new.is_told ≡ reason.old.is_told }
     ensures line { OnErr result (TellsOf path.now reason.old reason.new) }
     ensures same { OnOk result (reason.new ≡ reason.old) }
 {
-    match fs::read(rt, path) {
+    match rt.read_document(rt.alloc(), path) {
         Ok(bytes) => Ok(bytes),
         Err(error) => Err(reason.of(path, error)),
     }

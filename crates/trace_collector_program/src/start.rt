@@ -15,6 +15,7 @@ use crate::descriptors::{ThreadCounts, too_low};
 use crate::reason::Reason;
 use crate::task::ServeOptions;
 use crate::{ProgramFault, read_file, settings_text};
+use service_runtime::Documents;
 use settings_check::address_fault;
 use std::alloc::Global;
 use std::net::{Net, TcpListener, TcpStream};
@@ -39,17 +40,18 @@ struct Shortage {
 }
 
 /// The settings in a file, in which each tenant's queue holds at most so many bytes, where the options ask for that.
-pub fn settings_of_file(
-    rt: &(impl Files + AllocGlobal),
+pub fn settings_of_file<R: Documents + AllocGlobal>(
+    rt: &R,
     path: &str,
     options: &ServeOptions<'_>,
     reason: &mut Reason,
 ) -> Result<Settings, ProgramFault>
     ensures on_success { IfOk result (λ settings. (bytes : List ℕ)
+        × R.reads path.now (Ok bytes)
         × (settings_served (options_view options.now).queue_bytes bytes ≡ Ok
         (settings_view settings))) }
     ensures fault { IfErr result (λ fault. IsOutside fault
-        ⊎ ((bytes : List ℕ) × IsOfBytes bytes fault)) }
+        ⊎ ((bytes : List ℕ) × R.reads path.now (Ok bytes) × IsOfBytes bytes fault)) }
     ensures told { reason.new.is_told ≡ reason.old.is_told }
     ensures line { OnErr result (TellsOf path.now reason.old reason.new) }
     ensures same { OnOk result (reason.new ≡ reason.old) }
