@@ -1,1 +1,2 @@
 mod Options
+mod Tokens

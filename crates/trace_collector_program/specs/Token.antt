@@ -1,7 +1,8 @@
 -- The token that the admin port asks for. A bearer token is of few characters, with `=` at its end
 -- alone (RFC 6750, 2.1, `b64token`): so each client can send it, and no other text can be meant.
-use Rattle.std.specs.Prelude.{◌≡◌, ℕ, ◌-◌, ◌≤◌, List, [], ◌∷◌, length, take, drop, Bool, true, false, ◌&&◌, ◌||◌, not, ◌==◌, Option, Some, None, Ok, if◌then◌else◌}
+use Rattle.std.specs.Prelude.{◌≡◌, ◌↔◌, ℕ, ◌-◌, ◌≤◌, List, [], ◌∷◌, ◌++◌, length, take, drop, replicate, Bool, true, false, ◌&&◌, ◌||◌, not, ◌==◌, Option, Some, None, Ok, if◌then◌else◌}
 use Rattle.std.specs.Char.{is_ascii_alphanumeric}
+use Rattle.std.specs.List.{list_all}
 use Rattle.std.specs.Str.{bytes_eq}
 use Rattle.service_runtime.specs.Documents.{Reads}
 
@@ -24,6 +25,19 @@ shortest_token = 16
 abbrev pub is_token : List ℕ → Bool
 is_token [] = false
 is_token (byte ∷ bytes) = is_token_byte byte && goes_on false bytes
+
+-- RFC 6750's `b64token = 1*( ALPHA / DIGIT / "-" / "." / "_" / "~" / "+" / "/" ) *"="`: at least one such byte, and any
+-- number of `=` behind
+pub record IsB64Token (text : List ℕ) : Type 0 where
+  pub front : List ℕ
+  pub padding : ℕ
+  pub all : text ≡ front ++ replicate padding 61
+  pub some : 1 ≤ length front
+  pub bytes : list_all is_token_byte front ≡ true
+
+-- a token is just what is written so
+abbrev pub AreAsWritten : Type 0
+AreAsWritten = (text : List ℕ) → (is_token text ≡ true) ↔ IsB64Token text
 
 -- a text without this byte at its end, if it stands there
 abbrev pub without_last : ℕ → List ℕ → List ℕ

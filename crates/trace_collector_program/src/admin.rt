@@ -4,7 +4,7 @@ ghost use Rattle.std.specs.Prelude.{◌≡◌, ◌⊎◌, ◌≤◌, ◌<◌, fa
 ghost use Rattle.trace_collector_program.specs.Fault.{IsOutside};
 ghost use Rattle.trace_collector_program.specs.Reason.{IsAdded, TellsOf, reason_line};
 ghost use Rattle.trace_collector_program.specs.Task.{options_view};
-ghost use Rattle.trace_collector_program.specs.Token.{IsPortToken, IsTokenAt, is_token_byte, goes_on, is_token, shortest_token, without_last, without_end};
+ghost use Rattle.trace_collector_program.specs.Token.{AreAsWritten, IsPortToken, IsTokenAt, is_token_byte, goes_on, is_token, shortest_token, without_last, without_end};
 ghost use Rattle.trace_collector_program.specs.declared.ProgramFault.TheVariants as faults;
 ghost use Rattle.trace_collector.specs.declared.engine.ReplayFault.TheVariants as replay_faults;
 
@@ -169,6 +169,11 @@ fn is_token_byte(byte: u8) -> bool
 {
     byte.is_ascii_alphanumeric() || matches!(byte, b'-' | b'.' | b'_' | b'~' | b'+' | b'/')
 }
+
+/// A token is what RFC 6750 writes so: a law over the definitions.
+fn tokens_are_as_written()
+    ensures { AreAsWritten }
+{}
 
 /// A text without the end of its line.
 fn without_end(text: &[u8]) -> &[u8]
