@@ -16,7 +16,7 @@ use Rattle.tenant_shard.specs.declared.step.Outcome.TheVariants.{Idle, Refused}
 use Rattle.tenant_shard.specs.View.{View, kept_of}
 use Rattle.tenant_shard.specs.Outcomes.{OwnStep, plain, Asked, Piped, Comes, asked_in, named_in, is_taken, not_member, other_policies}
 use Rattle.tenant_shard.specs.Pick.{ready_in}
-use Rattle.tenant_shard.specs.Refusal.{Reaches, ReachesNone, IsFor, IsForNone, IsAskedFor, IsAskedOfNone, IsStepFor, IsNobodys}
+use Rattle.tenant_shard.specs.Refusal.{Reaches, ReachesNone, IsFor, IsForNone, IsAskedFor, IsAskedOfNone, IsStepFor, IsNobodys, TakesNoneOf, AskedTakesNone, MemberTakesNone}
 use Rattle.tenant_shard.specs.Run.{ShardSteps}
 use Rattle.tenant_shard.specs.Follows.{told_of_none, NoMemberFollows}
 use Rattle.tenant_shard.specs.Steps.{IsForPipeline, IsStepOf}
@@ -135,3 +135,11 @@ not_nobodys t s asked old asks is nobody = by (named_in s) (subst (λ a. IsAsked
     by : (whom : Option ℕ) → IsFor whom t asked old → IsForNone whom asked old → ⊥
     by (Some u) whose none = by_kept (kept_of t old) is.reaches (subst (λ x. ReachesNone asked (kept_of x old)) whose.0 none)
     by None pick none = not_both (ready_in old) (moment_of asked.step) t pick none
+
+-- where it takes no memory, that is by what is kept of the member whose it is
+pub member_takes : (t : ℕ) (s : Step) (asked : OwnStep) (old : List View) → asked_in s ≡ Piped asked → IsStepFor t s old → MemberTakesNone s old → TakesNoneOf asked (kept_of t old)
+member_takes t s asked old asks whose takes = by (named_in s) (subst (λ a. IsAskedFor (named_in s) t a old) asks whose) (subst (λ a. AskedTakesNone (named_in s) a old) asks takes)
+  where
+    by : (whom : Option ℕ) → IsFor whom t asked old → AskedTakesNone whom (Piped asked) old → TakesNoneOf asked (kept_of t old)
+    by (Some u) whose none = subst (λ x. TakesNoneOf asked (kept_of x old)) whose.0 none
+    by None pick none = absurd none

@@ -5,6 +5,7 @@ use Rattle.tenant_rules.specs.Own.{moment_of}
 use Rattle.tenant_rules.specs.State.{State}
 use Rattle.tenant_rules.specs.Timers.{IsFront}
 use Rattle.tenant_rules.specs.Machine.{effective}
+use Rattle.tenant_pipeline.specs.Steps.{TakesNone}
 use Rattle.shard_agenda.specs.Pick.{IsPick}
 use Rattle.tenant_shard.specs.declared.step.Step.{Step}
 use Rattle.tenant_shard.specs.View.{View, kept_of, was_of, StaysOf}
@@ -55,6 +56,21 @@ IsAskedOfNone whom (Comes section) views = ComesAgain whom views
 -- a step that reaches no member's pipeline and lets nobody in
 abbrev pub IsNobodys : Step → List View → Type 0
 IsNobodys step views = IsAskedOfNone (named_in step) (asked_in step) views
+
+-- a member's step takes no memory, by what is kept of the member
+abbrev pub TakesNoneOf : OwnStep → Option State → Type 0
+TakesNoneOf step None = ⊥
+TakesNoneOf step (Some kept) = TakesNone step.step kept
+
+-- what is asked of the tenant that is named takes none
+abbrev pub AskedTakesNone : Option ℕ → Asked → List View → Type 0
+AskedTakesNone (Some tenant) (Piped step) views = TakesNoneOf step (kept_of tenant views)
+AskedTakesNone (Some tenant) (Comes section) views = ⊥
+AskedTakesNone None asked views = ⊥
+
+-- a step that names a member takes none in its pipeline
+abbrev pub MemberTakesNone : Step → List View → Type 0
+MemberTakesNone step views = AskedTakesNone (named_in step) (asked_in step) views
 
 -- the lives without what is known of a tenant
 abbrev pub without : ℕ → Lives → Lives

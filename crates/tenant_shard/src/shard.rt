@@ -8,7 +8,7 @@ ghost use Rattle.tenant_shard.specs.Lives.{ShardStands};
 ghost use Rattle.tenant_shard.specs.Members.{IsPlaceOf, all_views};
 ghost use Rattle.tenant_shard.specs.Outcomes.{asked_by};
 ghost use Rattle.tenant_shard.specs.Run.{ShardSteps};
-ghost use Rattle.tenant_shard.specs.Refusal.{Reaches, ShardRefuses, IsNobodys};
+ghost use Rattle.tenant_shard.specs.Refusal.{Reaches, ShardRefuses, IsNobodys, MemberTakesNone, TakesNoneOf};
 ghost use Rattle.tenant_shard.specs.Follows.{ShardFollows};
 ghost use Rattle.tenant_shard.specs.Steps.{IsStepOf, IsLossOf};
 ghost use Rattle.tenant_shard.specs.Table.{opened};
@@ -144,6 +144,9 @@ impl Shard {
         ensures on_refusal { OnErr result (ShardRefuses step.now self.old self.new) }
         ensures on_no_member { IsNobodys step.now self.old → (IsOk result) × (self.new ≡ self.old) }
 
+        // A member's answer that finds no timer due takes none, nor do some of its other steps.
+        ensures takes_none { MemberTakesNone step.now self.old → IsOk result }
+
         // In every state each span that was taken is counted once.
         ensures counted { AllCounted self.new }
     {
@@ -270,6 +273,8 @@ fn step_at(
     ensures on_refusal { OnErr result (IsLossOf tenant (own_step_of step.now)
         (all_views stores.old members.old.items gone.old.items)
         (all_views stores.new members.new.items gone.new.items)) }
+    ensures takes_none { TakesNoneOf (asked_by step.now)
+        (kept_of tenant (all_views stores.old members.old.items gone.old.items)) → IsOk result }
     ensures whole { IsShard stores.new agenda.new members.new.items gone.new.items
         (vec_capacity gone.new) }
 {

@@ -1,12 +1,15 @@
-use Rattle.std.proofs.Common.{◌≡◌, ◌∙◌, sym, subst, true, false, arith}
+use Rattle.std.proofs.Common.{◌≡◌, ◌∙◌, sym, subst, true, false, arith, Option}
 use Rattle.std.proofs.lemmas.List.{length-set}
 use Rattle.std.specs.Prelude.{vec_capacity}
 use Rattle.tail_settings.specs.Section.{section_view}
 use Rattle.tenant_pipeline.specs.Invariant.{HasNonePending}
 use Rattle.tenant_pipeline.specs.OwnStep.{own_step_of}
 use Rattle.tenant_pipeline.specs.StateIn.{state_in}
+use Rattle.tenant_pipeline.specs.Steps.{TakesNone}
+use Rattle.tenant_rules.specs.State.{State}
 use Rattle.tenant_shard.specs.Members.{all_views}
 use Rattle.tenant_shard.specs.Outcomes.{asked_by}
+use Rattle.tenant_shard.specs.Refusal.{TakesNoneOf}
 use Rattle.tenant_shard.specs.Steps.{ends}
 use Rattle.tenant_shard.specs.View.{kept_of}
 use Rattle.tenant_shard.proofs.Places.{on_err, get_set}
@@ -44,6 +47,15 @@ returns-in_err-told-clause-on_refusal c =
       change = change c.args.tenant c.args.stores.now c.args.agenda.now c.args.members.now.items c.args.gone.now.items (vec_capacity c.args.gone.now) c.args.place own c.requires.whole c.requires.place c.index_mut-own.ensures.value c.step-result.new.stores own' after.tenant after.others_unchanged after.section;
       front = c.in_err-told.ensures.on_refusal;
     })
+
+pub returns-in_err-told-clause-takes_none : goal.returns-in_err-told-clause-takes_none
+returns-in_err-told-clause-takes_none c = λ takes.
+    let own = c.index_mut-own.result.now in
+    let stores = c.args.stores.now in
+    let is = kept c.args.tenant stores c.args.agenda.now c.args.members.now.items c.args.gone.now.items (vec_capacity c.args.gone.now) c.args.place own c.requires.whole c.requires.place c.index_mut-own.ensures.value in
+    let takes' : TakesNone (own_step_of c.args.step.now) (state_in own stores) = subst (λ (k : Option State). TakesNoneOf (asked_by c.args.step.now) k) is takes in
+    let no : false ≡ true = c.in_err-told.ensures.takes_none takes' in
+    absurd (cc)
 
 pub returns-in_err-told-clause-whole : goal.returns-in_err-told-clause-whole
 returns-in_err-told-clause-whole c =

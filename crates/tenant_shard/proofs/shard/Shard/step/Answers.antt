@@ -6,7 +6,7 @@ use Rattle.tenant_shard.specs.Outcomes.{Comes, asked_by, asked_in, named_in}
 use Rattle.tenant_shard.specs.Run.{ShardSteps}
 use Rattle.tenant_shard.specs.Follows.{ShardFollows}
 use Rattle.tenant_shard.specs.Steps.{IsComingOf, IsStepOf}
-use Rattle.tenant_shard.proofs.Addressees.{for_pipeline, nobodys_steps, member_steps, not_nobodys}
+use Rattle.tenant_shard.proofs.Addressees.{for_pipeline, nobodys_steps, member_steps, member_takes, not_nobodys}
 use Rattle.tenant_shard.proofs.Gones.{counted_all}
 use Rattle.tenant_shard.proofs.Places.{if_ok, on_error}
 use Rattle.tenant_shard.proofs.Runs.{coming_steps, coming_goes_on, newcomer_refused, comes_again, own_goes_on, loss_refuses}
@@ -56,6 +56,9 @@ returns-in-Add-clause-on_no_member c =
     let names : named_in s ≡ Some t = ap named_in c.in-Add.is in
     let comes : asked_in s ≡ Comes section = ap asked_in c.in-Add.is in
     rw (← c.self.view_is) (λ nobody. comes_again t s section old new c.add.result names comes nobody c.add.ensures.on_success c.add.ensures.on_refusal)
+
+pub returns-in-Add-clause-takes_none : goal.returns-in-Add-clause-takes_none
+returns-in-Add-clause-takes_none c = λ takes. let no : ⊥ = rw c.in-Add.is at takes in absurd no
 
 pub returns-in-Add-clause-counted : goal.returns-in-Add-clause-counted
 returns-in-Add-clause-counted c = counted_all c.self.inside.stores c.add.new.agenda c.add.new.members.items c.add.new.gone.items c.add.ensures.whole.whole
@@ -122,6 +125,16 @@ returns-in-Member-clause-on_no_member c =
     let is = reached.2 c.self.inside.stores c.self.inside.gone.items c.self.invariant.whole in
     rw (← c.self.view_is) (λ nobody. absurd (not_nobodys t s (asked_by own) old c.own_step-own.ensures is nobody))
 
+pub returns-in-Member-clause-takes_none : goal.returns-in-Member-clause-takes_none
+returns-in-Member-clause-takes_none c =
+    let t = c.in-Member.tenant in
+    let s = c.args.step.now in
+    let own = c.own_step-own.result in
+    let old = all_views c.self.inside.stores c.self.inside.members.items c.self.inside.gone.items in
+    let reached = rw (c.deref.ensures.value, c.in-Member.is) at c.addressee_of.ensures in
+    let is = reached.2 c.self.inside.stores c.self.inside.gone.items c.self.invariant.whole in
+    rw (← c.self.view_is) (λ takes. c.step_at.ensures.takes_none (member_takes t s (asked_by own) old c.own_step-own.ensures is.whose takes))
+
 pub returns-in-Member-clause-counted : goal.returns-in-Member-clause-counted
 returns-in-Member-clause-counted c = counted_all c.step_at.new.stores c.step_at.new.agenda c.step_at.new.members.items c.step_at.new.gone.items c.step_at.ensures.whole.whole
 
@@ -140,6 +153,9 @@ returns-in-Nobody-clause-from_state c =
 
 pub returns-in-Nobody-clause-on_no_member : goal.returns-in-Nobody-clause-on_no_member
 returns-in-Nobody-clause-on_no_member c = λ nobody. (refl, refl)
+
+pub returns-in-Nobody-clause-takes_none : goal.returns-in-Nobody-clause-takes_none
+returns-in-Nobody-clause-takes_none c = λ takes. refl
 
 pub returns-in-Nobody-clause-counted : goal.returns-in-Nobody-clause-counted
 returns-in-Nobody-clause-counted c = rw (← c.self.view_is) (counted_all c.self.inside.stores c.self.inside.agenda c.self.inside.members.items c.self.inside.gone.items c.self.invariant.whole)
