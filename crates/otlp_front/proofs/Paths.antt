@@ -117,7 +117,7 @@ scheme_before : (part rest : List ℕ) → IsSchemePart part → before_query (p
 scheme_before part rest (inl e) = lower_before part (codes "http://") rest (lowered part (codes "http://") e) refl
 scheme_before part rest (inr e) = lower_before part (codes "https://") rest (lowered part (codes "https://") e) refl
 
--- behind a scheme and an authority the path begins with the first `/`
+-- behind one of these schemes and an authority the path begins with the first `/`
 path_past : (scheme authority rest : List ℕ) → IsSchemePart scheme → IsAuthority authority
     → path_of (scheme ++ authority ++ rest) ≡ from_slash (before_query rest)
 unfolding path_of

@@ -13,7 +13,7 @@ pub record IsAbsolutePath (path : List ℕ) : Type 0 where
 abbrev pub IsQueryPart : List ℕ → Type 0
 IsQueryPart part = (part ≡ []) ⊎ ((query : List ℕ) × (part ≡ 63 ∷ query))
 
--- a scheme with its `://`, in any case (RFC 3986, section 3.1)
+-- `http://` or `https://`, in any case (RFC 9110, section 4.2; RFC 3986, section 3.1)
 abbrev pub IsSchemePart : List ℕ → Type 0
 IsSchemePart part = IsTrue (eq_ignore_case part (codes "http://")) ⊎ IsTrue (eq_ignore_case part (codes "https://"))
 

@@ -27,8 +27,8 @@ pub fn posts_pass()
     ensures { PostsPass }
 {}
 
-/// The path of a target is the one that stands in it by RFC 9112's grammar, with a query or without, alone or behind a
-/// scheme and an authority: a law over the definitions.
+/// The path of a target is the one that stands in it by RFC 9112's grammar, with a query or without, alone or behind
+/// `http://` or `https://` and an authority: a law over the definitions.
 pub fn paths_stand_in_targets()
     ensures { PathsStandInTargets }
 {}

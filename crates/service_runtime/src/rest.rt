@@ -171,10 +171,10 @@ impl<'b> Rest<'b> {
     }
 
     /// Pauses: for long only where it found no work and nothing was rung since it looked, and a turner for no longer
-    /// than so many milliseconds are left until something is due, or than what is due then may wait for a turn. Where
-    /// its bell was rung since its last pause a turner's begins with a short one that no ring cuts off, so that many
-    /// rings don't make many turns. What was tried since the moment was asked for, or since the last pause, took so
-    /// many milliseconds.
+    /// than so many milliseconds are left until something is due, or for twenty where that is sooner. Where its bell
+    /// was rung since its last pause a turner's begins with a short one that no ring cuts off, so that many rings don't
+    /// make many turns. What was tried since the moment was asked for, or since the last pause, took so many
+    /// milliseconds.
     pub fn pause<R: Wait + Clock>(&mut self, rt: &R, took: u64, left: u64) {
         match self.place {
             Place::Shard { bell, bells } if self.is_timed => {

@@ -170,7 +170,7 @@ fn is_token_byte(byte: u8) -> bool
     byte.is_ascii_alphanumeric() || matches!(byte, b'-' | b'.' | b'_' | b'~' | b'+' | b'/')
 }
 
-/// A token is what RFC 6750 writes so: a law over the definitions.
+/// A token is just what RFC 6750 writes as a `b64token`: a law over the definitions.
 fn tokens_are_as_written()
     ensures { AreAsWritten }
 {}
