@@ -1,2 +1,3 @@
 pub mod Equals
 pub mod Replies
+pub mod Statuses

@@ -10,7 +10,7 @@
 //! exporterhelper.
 #![tactic(auto)]
 
-ghost use Rattle.send_retry.specs.Law.{RefusalsAreForGood, PickedAreNear};
+ghost use Rattle.send_retry.specs.Law.{RefusalsAreForGood, SuccessesAreTaken, PickedAreNear, LateIsPastTheEnd};
 
 mod answer;
 mod delay;
@@ -26,8 +26,20 @@ pub fn refusals_are_for_good()
     ensures { RefusalsAreForGood }
 {}
 
+/// A batch is taken, but for the spans that the answer's body says were refused, by an answer whose status is a success
+/// (2xx), and by no other: a law over the definitions.
+pub fn successes_are_taken()
+    ensures { SuccessesAreTaken }
+{}
+
 /// The words of 32 bits pick the delays that lie no further from the interval than its spread, each of them and no
 /// other: a law over the definitions.
 pub fn delays_are_near()
     ensures { PickedAreNear }
+{}
+
+/// An attempt comes too late where `max_elapsed_time` isn't 0 and that long after the first job lies before it, and
+/// nowhere else: a law over the definitions.
+pub fn late_is_past_the_end()
+    ensures { LateIsPastTheEnd }
 {}

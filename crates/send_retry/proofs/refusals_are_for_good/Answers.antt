@@ -1,10 +1,10 @@
-use Rattle.std.proofs.Common.{◌≡◌, ◌≢◌, ◌<◌, ◌+◌, ◌*◌, ◌==◌, ◌&&◌, ◌||◌, ◌/◌, ◌%◌, ℕ, Bool, true, false, cond, List, Option, arith, refl}
+use Rattle.std.proofs.Common.{◌≡◌, ◌≢◌, ◌==◌, ◌&&◌, ◌||◌, ◌/◌, ℕ, Bool, true, false, cond, List, Option, refl}
 use Rattle.std.specs.Prelude.{nat_le}
-use Rattle.std.proofs.lemmas.Bool.{le-leb, leb-true, eqb-true, eqb-false, false_from_ne_true, and_parts, or_parts}
-use Rattle.std.proofs.lemmas.Nat.{div_below, le-div, div-add-mod', mod_below}
+use Rattle.std.proofs.lemmas.Bool.{eqb-true, eqb-false, false_from_ne_true, or_parts}
 use Rattle.send_retry.specs.Class.{AnswerData, Http, Failed, refused_of, wait_of, class_of, class_of_status}
 use Rattle.send_retry.specs.Law.{IsForGood}
 use Rattle.send_retry.specs.declared.answer.Verdict.TheVariants.{Taken, Again, Never}
+use Rattle.send_retry.proofs.Statuses.{is_success, no_success}
 use Rattle.send_retry.proofs.refusals_are_for_good.Goals as goal
 
 -- none of the three tests passed
@@ -15,26 +15,6 @@ tests_failed true waits again refused wait e = cc
 tests_failed false true again refused wait e = cc
 tests_failed false false true refused wait e = cc
 tests_failed false false false refused wait e = (refl, refl, refl)
-
--- the statuses of a success
-is_success : (status : ℕ) → (nat_le 200 status && nat_le status 299) ≡ true → status / 100 ≡ 2
-is_success status e =
-    let b = and_parts (nat_le 200 status) (nat_le status 299) e in
-    let low = leb-true 200 status b.0 in
-    let high = leb-true status 299 b.1 in
-    let least = le-div 2 status 100 (omega arith) (omega arith) in
-    let most = div_below status 100 3 (omega arith) (omega arith) in
-    omega arith
-
-no_success : (status : ℕ) → (nat_le 200 status && nat_le status 299) ≡ false → status / 100 ≢ 2
-no_success status e q =
-    let whole : status / 100 * 100 + status % 100 ≡ status = div-add-mod' status 100 in
-    let rest : status % 100 < 100 = mod_below status 100 (omega arith) in
-    let hundreds : status / 100 * 100 ≡ 200 = rw q refl in
-    let low : nat_le 200 status ≡ true = le-leb 200 status (omega arith) in
-    let high : nat_le status 299 ≡ true = le-leb status 299 (omega arith) in
-    let wrong : true ≡ false = rw (low, high) at e in
-    cc
 
 neither : (status a b : ℕ) → (status == a || status == b) ≡ false → (status ≢ a) × (status ≢ b)
 neither status a b e =
