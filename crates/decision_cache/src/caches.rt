@@ -114,6 +114,7 @@ impl DecisionCaches {
         ensures none { self.new.hits ≡ [] }
         ensures shown { OnOk result (shown self.new ≡ noted_in sampled id (shown self.old)) }
         ensures on_refusal { OnErr result (self.new ≡ self.old) }
+        ensures inactive { (cache_of sampled (shown self.old)).size ≡ 0 → IsOk result }
     {
         if sampled {
             self.sampled.put(id)

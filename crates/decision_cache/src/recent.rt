@@ -29,7 +29,8 @@ impl Model for RecentIds {
 
     ghost view = { λ s. record { size = s.size; ids = option_map_or (λ c. keys_of c.entries) s.cache [] } };
 
-    ghost invariant = { λ s. MatchOption s.cache (s.size ≡ 0) (λ c. (length c.entries ≤ s.size) × (s.size < c.cap)) };
+    ghost invariant = { λ s. MatchOption s.cache (s.size ≡ 0)
+        (λ c. (length c.entries ≤ s.size) × (s.size < c.cap) × (0 < s.size)) };
 }
 
 impl RecentIds {
@@ -60,6 +61,7 @@ impl RecentIds {
     pub(crate) fn put(&mut self, id: [u8; 16]) -> Result<(), AllocError>
         ensures on_success { OnOk result (self.new ≡ with_id id self.old) }
         ensures on_refusal { OnErr result (self.new ≡ self.old) }
+        ensures inactive { self.old.size ≡ 0 → IsOk result }
     {
         let Some(cache) = &mut self.cache else {
             return Ok(());
