@@ -1,6 +1,6 @@
 //! The batches of one tenant that wait to be sent or are being sent.
 
-ghost use Rattle.std.specs.Prelude.{◌≡◌, ◌+◌, ◌<◌, ◌≤◌, ◌^◌, ◌↔◌, true, Err, IfOk, IfErr, OnOk, OnErr, Some, None, option_map, ok_or, IsTrue, [], length};
+ghost use Rattle.std.specs.Prelude.{◌≡◌, ◌+◌, ◌<◌, ◌≤◌, ◌^◌, ◌↔◌, true, Ok, Err, IfOk, IfErr, OnOk, OnErr, Some, None, option_map, ok_or, IsTrue, [], length};
 ghost use Rattle.tail_settings.specs.SendingQueue.{sending_queue_view};
 ghost use Rattle.tail_settings.specs.RetryOnFailure.{retry_view};
 ghost use Rattle.send_retry.specs.Class.{answer_view};
@@ -172,6 +172,7 @@ impl SendQueue {
         ensures job { IfOk result (λ taken. taken ≡ job moment self.old) }
         ensures asked { OnOk result (self.new ≡ asked moment self.old) }
         ensures on_refusal { OnErr result (self.new ≡ self.old) }
+        ensures none { job moment self.old ≡ None → result ≡ Ok None }
     {
         if self.handed_out == MOST_TICKETS {
             return Ok(None);
@@ -271,6 +272,7 @@ impl SendQueue {
         ensures asked { OnOk result (self.new ≡ handed_of moment (choice_by None self.old)
             self.old) }
         ensures on_refusal { OnErr result (self.new ≡ self.old) }
+        ensures none { job_of (choice_by None self.old) self.old ≡ None → result ≡ Ok None }
     {
         if !self.has_consumer() {
             return Ok(None);
