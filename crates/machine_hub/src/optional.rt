@@ -1,6 +1,6 @@
 //! The log that keeps all or nothing.
 
-ghost use Rattle.std.specs.Prelude.{◌≡◌, ◌<◌, ◌+◌, ◌^◌, ◌++◌, ◌∷◌, [], map, length, true, false, IfOk, OnOk, OnErr};
+ghost use Rattle.std.specs.Prelude.{◌≡◌, ◌<◌, ◌+◌, ◌^◌, ◌++◌, ◌∷◌, [], map, length, true, false, IfOk, OnOk, OnErr, IsOk};
 ghost use Rattle.std.specs.Prelude.{vec_len, vec_capacity};
 ghost use Rattle.std.specs.Arc.{arc_value};
 
@@ -48,6 +48,7 @@ impl<M: Machine> StepLog<M> for OptionalLog<M> {
         ensures room { OnOk result (length (map arc_value self.new.kept.items) + 1 < 2 ^ 64) }
         ensures grown { OnOk result ((self.old.keeps ≡ true)
             → vec_len self.new.kept < vec_capacity self.new.kept) }
+        ensures unkept { self.old.keeps ≡ false → IsOk result }
     {
         if !self.keeps {
             return Ok(());
