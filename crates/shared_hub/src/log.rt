@@ -1,6 +1,6 @@
 //! The log of a shard.
 
-ghost use Rattle.std.specs.Prelude.{◌≡◌, ◌<◌, ◌+◌, ◌^◌, ◌++◌, ◌∷◌, [], length, true, false, None, IfOk, OnOk, OnErr, IsSome};
+ghost use Rattle.std.specs.Prelude.{◌≡◌, ◌<◌, ◌+◌, ◌^◌, ◌++◌, ◌∷◌, [], length, true, false, None, IfOk, OnOk, OnErr, IsOk, IsSome};
 ghost use Rattle.std.specs.Prelude.{vec_len, vec_capacity};
 ghost use Rattle.std.specs.Arc.{arc_value};
 
@@ -54,6 +54,7 @@ impl StepLog<ShardMachine> for OptionalLog {
         ensures grown { OnOk result ((self.old.keeps ≡ true)
             → vec_len self.new.kept < vec_capacity self.new.kept) }
         ensures next { OnOk result ((self.old.keeps ≡ true) → IsSome self.new.next) }
+        ensures unkept { self.old.keeps ≡ false → IsOk result }
     {
         if !self.keeps {
             return Ok(());
