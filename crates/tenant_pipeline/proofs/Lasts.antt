@@ -12,10 +12,10 @@ use Rattle.tenant_stores.specs.Trail.{HoldsAll}
 use Rattle.tenant_stores.proofs.Backs.{seat_here}
 use Rattle.tenant_stores.proofs.Rows.{row_here}
 use Rattle.tenant_pipeline.specs.declared.pipeline.Pipeline.{Pipeline}
+use Rattle.tenant_pipeline.specs.declared.place.KeptState.{KeptState}
+use Rattle.tenant_pipeline.specs.declared.place.KeptState.TheVariants as states
 use Rattle.tenant_pipeline.specs.declared.place.LastRow.{LastRow}
-use Rattle.tenant_pipeline.specs.declared.place.TraceState.{TraceState}
-use Rattle.tenant_pipeline.specs.declared.place.TraceState.TheVariants as states
-use Rattle.tenant_pipeline.specs.Posts.{note_in, IsLast, IsTraceStateAt}
+use Rattle.tenant_pipeline.specs.Posts.{note_in, IsKeptStateAt, IsLast}
 
 -- one that is known
 module _ (last : Option LastRow) (row : LastRow) (own : Pipeline) (p : Part TraceNote) (there : last ≡ Some row) (is : IsLast last own p) where
@@ -46,10 +46,10 @@ last_held (Some last) own keys p q holds is = (
 )
 
 -- the row of a trace that waits stays its latest there
-pub number_held : (trace : List ℕ) (its_state : TraceState) (own : Pipeline) (keys : List ℕ) (p q : Part TraceNote) → HoldsAll keys p q → IsTraceStateAt trace its_state own p → IsTraceStateAt trace its_state own q
+pub number_held : (trace : List ℕ) (its_state : KeptState) (own : Pipeline) (keys : List ℕ) (p q : Part TraceNote) → HoldsAll keys p q → IsKeptStateAt trace its_state own p → IsKeptStateAt trace its_state own q
 number_held trace states.Nowhere own keys p q holds is = tt
-number_held trace (states.Cached sampled) own keys p q holds is = tt
-number_held trace (states.Decided sampled) own keys p q holds is = tt
+number_held trace states.Cached own keys p q holds is = tt
+number_held trace states.Decided own keys p q holds is = tt
 number_held trace (states.Waits number) own keys p q holds is = (ap (λ (f : List ℕ → Option ℕ). f trace) holds.latest_rows ∙ is.0, is.1)
 
 -- one that a span joined

@@ -23,9 +23,10 @@ use Rattle.tenant_rules.specs.Machine.{come, counted_in, evicted, goes, has_row,
 use Rattle.tenant_rules.specs.State.{State}
 use Rattle.tenant_rules.specs.Timers.{grouped, recount}
 use Rattle.tenant_pipeline.specs.declared.pipeline.Pipeline.{Pipeline}
+use Rattle.tenant_pipeline.specs.declared.place.KeptState.TheVariants as kept
 use Rattle.tenant_pipeline.specs.declared.place.TraceState.TheVariants as states
 use Rattle.tenant_pipeline.specs.StateIn.{arrival_of, arrivals_of, counts_in, settled_of, written_state_of, waiting_of}
-use Rattle.tenant_pipeline.specs.Posts.{IsTraceState, IsTraceStateAt, state_by_cache}
+use Rattle.tenant_pipeline.specs.Posts.{IsTraceState, IsTraceStateAt, state_by_cache, state_by_verdict}
 use Rattle.tenant_pipeline.specs.Invariant.{IsNoteOf, IsNoted}
 
 -- ---- which row is a trace's
@@ -142,16 +143,27 @@ module _ (own : Pipeline) (p : Part TraceNote) (trace : List ℕ) where
   -- by what the caches know, where no row is present
   pub is_absent : (known : Option Bool) → found trace (shown_caches own.caches) ≡ known → ShowsNone (counts_in own) trace p → IsTraceState trace (state_by_cache known) (written_state_of own p)
   is_absent None is none = (has_row_is trace (waiting_in (counts_in own) p) ∙ none.waiting, sampled_is trace (settled_in (counts_in own) p) ∙ none.settled, is)
-  is_absent (Some sampled) is none = (has_row_is trace (waiting_in (counts_in own) p) ∙ none.waiting, sampled_is trace (settled_in (counts_in own) p) ∙ none.settled, is)
+  is_absent (Some true) is none = (has_row_is trace (waiting_in (counts_in own) p) ∙ none.waiting, sampled_is trace (settled_in (counts_in own) p) ∙ none.settled, is)
+  is_absent (Some false) is none = (has_row_is trace (waiting_in (counts_in own) p) ∙ none.waiting, sampled_is trace (settled_in (counts_in own) p) ∙ none.settled, is)
 
   pub absent_at : (known : Option Bool) → IsTraceStateAt trace (state_by_cache known) own p
   absent_at None = tt
-  absent_at (Some sampled) = tt
+  absent_at (Some true) = tt
+  absent_at (Some false) = tt
 
-  pub is_decided : (number : ℕ) (shows : ShowsDecided (counts_in own) trace number p) → IsTraceState trace (states.Decided shows.row.sampled) (written_state_of own p)
-  is_decided number shows = (has_row_is trace (waiting_in (counts_in own) p) ∙ shows.waiting, sampled_is trace (settled_in (counts_in own) p) ∙ shows.settled)
+  -- by its row's verdict, where that was decided
+  by_verdict : (sampled : Bool) → has_row trace (written_state_of own p).waiting ≡ false → sampled_in trace (written_state_of own p).settled ≡ Some sampled → IsTraceState trace (state_by_verdict sampled) (written_state_of own p)
+  by_verdict true none is = (none, is)
+  by_verdict false none is = (none, is)
 
-  pub it_waits : (number : ℕ) → ShowsWaiting (counts_in own) trace number p → IsTraceState trace (states.Waits number) (written_state_of own p)
+  pub is_decided : (number : ℕ) (shows : ShowsDecided (counts_in own) trace number p) → IsTraceState trace (state_by_verdict shows.row.sampled) (written_state_of own p)
+  is_decided number shows = by_verdict shows.row.sampled (has_row_is trace (waiting_in (counts_in own) p) ∙ shows.waiting) (sampled_is trace (settled_in (counts_in own) p) ∙ shows.settled)
+
+  pub decided_at : (sampled : Bool) → IsTraceStateAt trace (state_by_verdict sampled) own p
+  decided_at true = tt
+  decided_at false = tt
+
+  pub it_waits : (number : ℕ) → ShowsWaiting (counts_in own) trace number p → IsTraceState trace (states.Kept (kept.Waits number)) (written_state_of own p)
   it_waits number shows = has_row_is trace (waiting_in (counts_in own) p) ∙ shows.waiting
 
 -- ---- where a span goes

@@ -25,6 +25,8 @@ use Rattle.tenant_rules.specs.Machine.{all_come, cached_or_opens, counted_in, ha
 use Rattle.tenant_rules.specs.Intake.{Verdict, verdict_of}
 use Rattle.tenant_pipeline.specs.declared.pipeline.Pipeline.{Pipeline}
 use Rattle.tenant_pipeline.specs.declared.journal.Journal.{Journal}
+use Rattle.tenant_pipeline.specs.declared.place.KeptState.{KeptState}
+use Rattle.tenant_pipeline.specs.declared.place.KeptState.TheVariants as kept
 use Rattle.tenant_pipeline.specs.declared.place.LastRow.{LastRow}
 use Rattle.tenant_pipeline.specs.declared.place.TraceState.{TraceState}
 use Rattle.tenant_pipeline.specs.declared.place.TraceState.TheVariants as states
@@ -122,27 +124,45 @@ pub record IsSameTenant (old new : Pipeline) : Type 0 where
   pub clock : new.clock ≡ old.clock
   pub drained : new.drained ≡ old.drained
 
--- where a trace has its latest row, as the rules see it, or a cache its verdict
-abbrev pub IsTraceState : List ℕ → TraceState → State → Type 0
-IsTraceState trace states.Nowhere s =
+-- where a trace has its latest row whose next span is kept, as the rules see it, or a cache its verdict
+abbrev pub IsKeptState : List ℕ → KeptState → State → Type 0
+IsKeptState trace kept.Nowhere s =
     (has_row trace s.waiting ≡ false) × (sampled_in trace s.settled ≡ None) × (found trace s.caches ≡ None)
-IsTraceState trace (states.Cached sampled) s =
-    (has_row trace s.waiting ≡ false) × (sampled_in trace s.settled ≡ None) × (found trace s.caches ≡ Some sampled)
-IsTraceState trace (states.Decided sampled) s = (has_row trace s.waiting ≡ false)
-    × (sampled_in trace s.settled ≡ Some sampled)
-IsTraceState trace (states.Waits number) s = has_row trace s.waiting ≡ true
+IsKeptState trace kept.Cached s =
+    (has_row trace s.waiting ≡ false) × (sampled_in trace s.settled ≡ None) × (found trace s.caches ≡ Some true)
+IsKeptState trace kept.Decided s = (has_row trace s.waiting ≡ false) × (sampled_in trace s.settled ≡ Some true)
+IsKeptState trace (kept.Waits number) s = has_row trace s.waiting ≡ true
+
+-- and where any trace has its latest row
+abbrev pub IsTraceState : List ℕ → TraceState → State → Type 0
+IsTraceState trace states.Unsampled s = (has_row trace s.waiting ≡ false) × (sampled_in trace s.settled ≡ Some false)
+IsTraceState trace states.CachedUnsampled s =
+    (has_row trace s.waiting ≡ false) × (sampled_in trace s.settled ≡ None) × (found trace s.caches ≡ Some false)
+IsTraceState trace (states.Kept state) s = IsKeptState trace state s
 
 -- where a trace is that has no row that is present, by what the caches know
 abbrev pub state_by_cache : Option Bool → TraceState
-state_by_cache None = states.Nowhere
-state_by_cache (Some sampled) = states.Cached sampled
+state_by_cache None = states.Kept kept.Nowhere
+state_by_cache (Some true) = states.Kept kept.Cached
+state_by_cache (Some false) = states.CachedUnsampled
 
--- the number of a row that waits
+-- where a trace is whose row was decided, by whether it is sampled
+abbrev pub state_by_verdict : Bool → TraceState
+state_by_verdict true = states.Kept kept.Decided
+state_by_verdict false = states.Unsampled
+
+-- the number of a row that waits, of a trace whose next span is kept
+abbrev pub IsKeptStateAt : List ℕ → KeptState → Pipeline → Part TraceNote → Type 0
+IsKeptStateAt trace kept.Nowhere own p = Unit
+IsKeptStateAt trace kept.Cached own p = Unit
+IsKeptStateAt trace kept.Decided own p = Unit
+IsKeptStateAt trace (kept.Waits number) own p = (p.latest_rows trace ≡ Some number) × (own.rows.decided < number)
+
+-- and of any trace
 abbrev pub IsTraceStateAt : List ℕ → TraceState → Pipeline → Part TraceNote → Type 0
-IsTraceStateAt trace states.Nowhere own p = Unit
-IsTraceStateAt trace (states.Cached sampled) own p = Unit
-IsTraceStateAt trace (states.Decided sampled) own p = Unit
-IsTraceStateAt trace (states.Waits number) own p = (p.latest_rows trace ≡ Some number) × (own.rows.decided < number)
+IsTraceStateAt trace states.Unsampled own p = Unit
+IsTraceStateAt trace states.CachedUnsampled own p = Unit
+IsTraceStateAt trace (states.Kept state) own p = IsKeptStateAt trace state own p
 
 -- the note of a row, where there is one
 abbrev pub note_in : Option (Row TraceNote) → Option TraceNote

@@ -1,6 +1,6 @@
 //! A span of a post goes to its trace's row, leaves late, or opens a row.
 
-ghost use Rattle.std.specs.Prelude.{◌≡◌, ◌<◌, ◌≤◌, ◌+◌, ◌++◌, ◌∷◌, [], ◌^◌, ℕ, List, Some, IfOk, OnOk, OnErr, nat_lt, false, length, vec_len, vec_capacity};
+ghost use Rattle.std.specs.Prelude.{◌≡◌, ◌<◌, ◌≤◌, ◌+◌, ◌++◌, ◌∷◌, [], ◌^◌, ℕ, List, Some, IfOk, OnOk, OnErr, nat_lt, false, true, length, vec_len, vec_capacity};
 ghost use Rattle.drop_ledger.specs.Ledger.{LedgerInvariant, counted, most_counted, moved, taken};
 ghost use Rattle.drop_ledger.specs.declared.places.Place.TheVariants.{NotSampled, Undecided};
 ghost use Rattle.trace_rows.specs.Part.{keys_of};
@@ -13,9 +13,9 @@ ghost use Rattle.tenant_rules.specs.Timers.{grouped};
 ghost use Rattle.decision_cache.specs.Caches.{found, shown};
 ghost use Rattle.tenant_pipeline.specs.StateIn.{counts_in, part_in, written_state_in};
 ghost use Rattle.tenant_pipeline.specs.Invariant.{PipelineInvariantAt};
-ghost use Rattle.tenant_pipeline.specs.Posts.{arrival_at, CameIn, CameUnsampled, IsComing, IsLast, IsSameTenant, IsTraceState, IsTraceStateAt, StaysWritten, StaysWrittenAnywhere};
+ghost use Rattle.tenant_pipeline.specs.Posts.{arrival_at, CameIn, CameUnsampled, IsComing, IsLast, IsKeptState, IsKeptStateAt, IsSameTenant, IsTraceState, IsTraceStateAt, StaysWritten, StaysWrittenAnywhere};
 ghost use Rattle.tenant_pipeline.specs.Posts.{note_in};
-ghost use Rattle.tenant_pipeline.specs.Posts.{first_left, ledger_left, state_by_cache};
+ghost use Rattle.tenant_pipeline.specs.Posts.{first_left, ledger_left, state_by_cache, state_by_verdict};
 ghost use Rattle.tenant_stores.specs.Promises.{OthersUnchanged, TextsStay, WhereInHand, ShowsSameInHand};
 ghost use Rattle.tenant_stores.specs.HeldTexts.{origin_in};
 
@@ -32,12 +32,23 @@ use trace_rows::halves_of;
 /// Where a trace has its latest row.
 #[derive(Clone, Copy, Debug, PartialEq, Eq)]
 pub enum TraceState {
+    /// Its row was decided, and isn't sampled.
+    Unsampled,
+    /// It has none that is present, and a cache knows that it isn't sampled.
+    CachedUnsampled,
+    /// It is elsewhere, and a span of it that comes is kept.
+    Kept(KeptState),
+}
+
+/// Where a trace has its latest row whose next span is kept.
+#[derive(Clone, Copy, Debug, PartialEq, Eq)]
+pub enum KeptState {
     /// It has none that is present, and no cache has its verdict.
     Nowhere,
-    /// It has none that is present, and is known to be sampled or not.
-    Cached(bool),
-    /// Its row was decided, and is sampled or not.
-    Decided(bool),
+    /// It has none that is present, and a cache knows that it is sampled.
+    Cached,
+    /// Its row was decided, and is sampled.
+    Decided,
     /// Its row waits, and has this number.
     Waits(u64),
 }
@@ -69,10 +80,10 @@ impl Pipeline {
             return self.cached_state(trace);
         }
         if number > self.rows.decided {
-            return TraceState::Waits(number);
+            return TraceState::Kept(KeptState::Waits(number));
         }
         match stores.row(self.tenant, number) {
-            Some(row) => TraceState::Decided(row.sampled),
+            Some(row) => decided_state(row.sampled),
             None => unreachable!(),
         }
     }
@@ -92,7 +103,7 @@ impl Pipeline {
     {
         if let Some(row) = last {
             if row.trace == halves_of(trace) {
-                return TraceState::Waits(row.number);
+                return TraceState::Kept(KeptState::Waits(row.number));
             }
         }
         self.trace_state(stores, trace)
@@ -121,8 +132,9 @@ impl Pipeline {
         ensures { result ≡ state_by_cache (found trace (shown self.now.caches)) }
     {
         match self.caches.find(trace) {
-            Some(sampled) => TraceState::Cached(sampled),
-            None => TraceState::Nowhere,
+            Some(true) => TraceState::Kept(KeptState::Cached),
+            Some(false) => TraceState::CachedUnsampled,
+            None => TraceState::Kept(KeptState::Nowhere),
         }
     }
 
@@ -136,9 +148,9 @@ impl Pipeline {
         places.undecided + places.pending < self.section.max_spans as u64
     }
 
-    /// A span of a post comes at a moment, in milliseconds, for which there is room, while its trace is in this state.
-    /// The texts of its origin are held at these keys, which it shares. What it changes is written down, also where
-    /// memory is refused.
+    /// A span of a post comes at a moment, in milliseconds, for which there is room, while its trace is in this state,
+    /// in which it is kept. The texts of its origin are held at these keys, which it shares. What it changes is written
+    /// down, also where memory is refused.
     pub(crate) fn admit(
         &mut self,
         stores: &mut Stores<TraceNote>,
@@ -147,7 +159,7 @@ impl Pipeline {
         moment: u64,
         keys: &SharedKeys,
         span: &NotedSpan,
-        state: TraceState,
+        state: KeptState,
     ) -> Result<(), AllocError>
         requires coming { (held : List ℕ)
             × IsComing moment journal.old keys.now.keys span.now held self.old
@@ -156,8 +168,8 @@ impl Pipeline {
         requires last { IsLast last.old self.old (part_in self.old stores.old) }
         requires budget { self.old.ledger.places.undecided + self.old.ledger.places.pending
             < self.old.section.max_spans }
-        requires state { IsTraceState span.now.trace state (written_state_in self.old stores.old) }
-        requires number { IsTraceStateAt span.now.trace state self.old
+        requires state { IsKeptState span.now.trace state (written_state_in self.old stores.old) }
+        requires number { IsKeptStateAt span.now.trace state self.old
             (part_in self.old stores.old) }
         ensures came { OnOk result (CameIn
             (come moment (arrival_at (part_in self.old stores.old) keys.now.keys span.now.text))
@@ -172,35 +184,30 @@ impl Pipeline {
     {
         journal.placed.reserve(1)?;
         match state {
-            TraceState::Waits(number) => {
+            KeptState::Waits(number) => {
                 self.join(stores, journal, last, number, moment, keys, span)
             }
-            TraceState::Decided(true) => {
+            KeptState::Decided => {
                 *last = None;
                 self.admit_late(stores, journal, moment, keys, span)
             }
-            TraceState::Decided(false) => {
+            KeptState::Cached => {
                 *last = None;
-                self.count_unsampled();
-                Ok(())
+                self.hit_sampled(stores, journal, moment, keys, span)
             }
-            TraceState::Cached(sampled) => {
-                *last = None;
-                self.hit(stores, journal, moment, keys, span, sampled)
-            }
-            TraceState::Nowhere => self.open(stores, journal, last, moment, keys, span),
+            KeptState::Nowhere => self.open(stores, journal, last, moment, keys, span),
         }
     }
 
-    /// A span comes whose trace has no row that is present, while a cache knows whether it was sampled.
-    fn hit(
+    /// A span comes whose trace has no row that is present, while a cache knows that it was sampled: it waits for a
+    /// batch alone.
+    fn hit_sampled(
         &mut self,
         stores: &mut Stores<TraceNote>,
         journal: &mut Journal,
         moment: u64,
         keys: &SharedKeys,
         span: &NotedSpan,
-        sampled: bool,
     ) -> Result<(), AllocError>
         requires coming { (held : List ℕ)
             × IsComing moment journal.old keys.now.keys span.now held self.old
@@ -209,10 +216,10 @@ impl Pipeline {
         requires budget { self.old.ledger.places.undecided + self.old.ledger.places.pending
             < self.old.section.max_spans }
         requires room { vec_len journal.old.placed < vec_capacity journal.old.placed }
-        requires known { found span.now.trace (shown self.old.caches) ≡ Some sampled }
+        requires known { found span.now.trace (shown self.old.caches) ≡ Some true }
         ensures came { OnOk result (CameIn
             (λ s. cached_or_opens moment
-            (arrival_at (part_in self.old stores.old) keys.now.keys span.now.text) (Some sampled)
+            (arrival_at (part_in self.old stores.old) keys.now.keys span.now.text) (Some true)
             (counted_in s)) moment journal.old journal.new self.old self.new stores.old
             stores.new) }
         ensures written { StaysWritten journal.old journal.new self.old self.new stores.old
@@ -220,11 +227,8 @@ impl Pipeline {
         ensures others_unchanged { OthersUnchanged self.old.tenant stores.old stores.new }
         ensures same { IsSameTenant self.old self.new }
     {
-        if sampled {
-            self.admit_late(stores, journal, moment, keys, span)?;
-            return self.caches.push_hit(span.trace, true);
-        }
-        self.hit_unsampled(span.trace)
+        self.admit_late(stores, journal, moment, keys, span)?;
+        self.caches.push_hit(span.trace, true)
     }
 
     /// A span comes whose trace has no row that is present, while a cache knows that it wasn't sampled. Nothing of it
@@ -478,6 +482,17 @@ impl Pipeline {
                 Err(refused)
             }
         }
+    }
+}
+
+/// Where a trace is whose row was decided.
+fn decided_state(sampled: bool) -> TraceState
+    ensures { result ≡ state_by_verdict sampled }
+{
+    if sampled {
+        TraceState::Kept(KeptState::Decided)
+    } else {
+        TraceState::Unsampled
     }
 }
 

@@ -16,7 +16,7 @@ ghost use Rattle.otlp_prepare.specs.Prepared.{AreReady};
 ghost use Rattle.tenant_pipeline.specs.Prepared.{arrivals_of};
 ghost use Rattle.tenant_pipeline.specs.StateIn.{part_in, policies_of, written_state_in};
 ghost use Rattle.tenant_pipeline.specs.Invariant.{PipelineInvariantAt, IsSwept};
-ghost use Rattle.tenant_pipeline.specs.Posts.{all_keys, all_text_keys, held_keys, keys_at, keys_if, place_of, AreHeldAt, CameNext, HoldsMore, IsFull, IsLast, IsLike, IsNext, IsPlaceLike, IsPosting, IsTaken, IsTraceState, IsTraceStateAt, IsSameTenant, ShowsSameLike, StaysWrittenWith, verdict_after, WhereLike};
+ghost use Rattle.tenant_pipeline.specs.Posts.{all_keys, all_text_keys, held_keys, keys_at, keys_if, place_of, AreHeldAt, CameNext, HoldsMore, IsFull, IsLast, IsLike, IsKeptState, IsKeptStateAt, IsNext, IsPlaceLike, IsPosting, IsTaken, IsSameTenant, ShowsSameLike, StaysWrittenWith, verdict_after, WhereLike};
 ghost use Rattle.tenant_pipeline.specs.Acts.{ActsAt, IsPosted, at};
 ghost use Rattle.tenant_stores.specs.Promises.{OthersUnchanged, TextsStay, WhereHeld, ShowsSameHeld};
 ghost use Rattle.tenant_stores.specs.Shows.{AreAmong};
@@ -24,7 +24,7 @@ ghost use Rattle.tenant_stores.specs.HeldTexts.{origin_in};
 
 use crate::journal::Journal;
 use crate::pipeline::Pipeline;
-use crate::place::{LastRow, TraceState};
+use crate::place::{KeptState, LastRow, TraceState};
 use crate::reply::{refusal, success};
 use otlp_prepare::{NotedSpan, Prepared, SpanOrigin};
 use span_pool::{SharedKeys, TextKeys};
@@ -404,23 +404,23 @@ impl Pipeline {
             return Ok(());
         }
         match self.known_state(stores, *last, span.trace) {
-            TraceState::Decided(false) => {
+            TraceState::Unsampled => {
                 *last = None;
                 self.count_unsampled();
                 Ok(())
             }
-            TraceState::Cached(false) => {
+            TraceState::CachedUnsampled => {
                 *last = None;
                 self.hit_unsampled(span.trace)
             }
-            state => {
+            TraceState::Kept(state) => {
                 self.admit_with_texts(stores, journal, last, moment, origins, held, span, state)
             }
         }
     }
 
-    /// A span of a body comes at a moment, in milliseconds, for which there is room, while its trace is in this state.
-    /// The texts of its origin are held from now on.
+    /// A span of a body comes at a moment, in milliseconds, for which there is room, while its trace is in this state,
+    /// in which it is kept. The texts of its origin are held from now on.
     fn admit_with_texts(
         &mut self,
         stores: &mut Stores<TraceNote>,
@@ -430,7 +430,7 @@ impl Pipeline {
         origins: &[SpanOrigin],
         held: &mut HeldOrigins,
         span: &NotedSpan,
-        state: TraceState,
+        state: KeptState,
     ) -> Result<(), AllocError>
         requires next { IsNext moment journal.old origins.now held.old span.now self.old
             (part_in self.old stores.old) }
@@ -438,8 +438,8 @@ impl Pipeline {
         requires last { IsLast last.old self.old (part_in self.old stores.old) }
         requires budget { self.old.ledger.places.undecided + self.old.ledger.places.pending
             < self.old.section.max_spans }
-        requires state { IsTraceState span.now.trace state (written_state_in self.old stores.old) }
-        requires number { IsTraceStateAt span.now.trace state self.old
+        requires state { IsKeptState span.now.trace state (written_state_in self.old stores.old) }
+        requires number { IsKeptStateAt span.now.trace state self.old
             (part_in self.old stores.old) }
         ensures came { OnOk result (CameNext (come moment (arrival_in origins.now span.now)) moment
             journal.new origins.now held.new self.old self.new (part_in self.old stores.old)

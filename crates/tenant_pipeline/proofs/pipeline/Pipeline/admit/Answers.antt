@@ -1,24 +1,20 @@
-use Rattle.std.proofs.Common.{arith, ◌≡◌, ◌<◌, ◌+◌, ◌∙◌, ℕ, List, [], ◌∷◌, refl, sym, ap, subst, Bool, true, false, Some, None}
+use Rattle.std.proofs.Common.{arith, ◌≡◌, ◌+◌, ◌∙◌, ℕ, List, [], ◌∷◌, refl, sym, ap, subst, true, false, Some, None}
 use Rattle.std.specs.Prelude.{nat_lt}
 use Rattle.std.proofs.lemmas.Bool.Decides.{nat_tests}
 use Rattle.std.proofs.lemmas.Result.{on_ok_weaker}
 use Rattle.decision_cache.specs.Caches.{found}
-use Rattle.drop_ledger.specs.Ledger.{moved, taken}
-use Rattle.drop_ledger.specs.declared.places.Place.TheVariants.{Undecided, NotSampled}
+use Rattle.drop_ledger.specs.declared.places.Place.TheVariants.{Undecided}
 use Rattle.tenant_stores.specs.Part.{part}
 use Rattle.tenant_rules.specs.Arrivals.{trace_of}
 use Rattle.tenant_rules.specs.Machine.{cached_or_opens, come, counted_in, evicted, has_row, joins, opens, sampled_in}
 use Rattle.tenant_rules.specs.State.{State}
-use Rattle.tenant_rules.specs.Timers.{grouped, recount}
+use Rattle.tenant_rules.specs.Timers.{grouped}
 use Rattle.tenant_pipeline.specs.declared.journal.Journal.{Journal}
-use Rattle.tenant_pipeline.specs.declared.pipeline.Pipeline.{Pipeline}
-use Rattle.tenant_pipeline.specs.declared.place.TraceState.{TraceState}
+use Rattle.tenant_pipeline.specs.declared.place.KeptState.{KeptState}
 use Rattle.tenant_pipeline.specs.StateIn.{part_in, written_state_of}
-use Rattle.tenant_pipeline.specs.Posts.{arrival_at, Came, IsSameTenant, IsTraceState, IsWritten}
-use Rattle.tenant_pipeline.proofs.Holds.{recounted}
-use Rattle.tenant_pipeline.proofs.Late.{lost_came}
+use Rattle.tenant_pipeline.specs.Posts.{arrival_at, IsKeptState}
 use Rattle.tenant_pipeline.proofs.Placing.{came_by, written_same}
-use Rattle.tenant_pipeline.proofs.TraceStates.{it_comes_late, it_hits, it_is_lost, it_joins, it_opens}
+use Rattle.tenant_pipeline.proofs.TraceStates.{it_comes_late, it_hits, it_joins, it_opens}
 use Rattle.tenant_pipeline.proofs.pipeline.Pipeline.admit.Goals as goal
 
 pub returns-in-Waits-clause-came : goal.returns-in-Waits-clause-came
@@ -33,7 +29,7 @@ returns-in-Waits-clause-came c =
     let budget = c.requires.budget in
     let room : nat_lt (own.ledger.places.undecided + own.ledger.places.pending) own.section.max_spans ≡ true = grind (arith, nat_tests, budget) in
     let trace = c.requires.coming.1.trace in
-    let has : has_row (trace_of x) s.waiting ≡ true = ap (λ (t : List ℕ). has_row t s.waiting) (sym trace) ∙ subst (λ (its_state : TraceState). IsTraceState c.args.span.now.trace its_state s) c.in-Waits.is c.requires.state in
+    let has : has_row (trace_of x) s.waiting ≡ true = ap (λ (t : List ℕ). has_row t s.waiting) (sym trace) ∙ subst (λ (its_state : KeptState). IsKeptState c.args.span.now.trace its_state s) c.in-Waits.is c.requires.state in
     on_ok_weaker c.join.result
     (came_by (λ (t : State). joins x (counted_in t)) (come m x) m ready journal c.join.new.journal own c.join.new.self p (part_in c.join.new.self c.join.new.stores) (it_joins m x s room has) refl)
     c.join.ensures.came
@@ -46,8 +42,8 @@ returns-in-Waits-clause-written c = λ start first written.
     let ready : Journal = record { placed = c.reserve.new.self; undo = journal.undo; hits = journal.hits } in
     c.join.ensures.written start first (written_same journal ready start own first p c.reserve.ensures.items refl refl written)
 
-pub returns-in-Decided-true-clause-came : goal.returns-in-Decided-true-clause-came
-returns-in-Decided-true-clause-came c =
+pub returns-in-Decided-clause-came : goal.returns-in-Decided-clause-came
+returns-in-Decided-clause-came c =
     let own = c.args.self.now in
     let p = part own.tenant c.args.stores.now in
     let s = written_state_of own p in
@@ -58,62 +54,26 @@ returns-in-Decided-true-clause-came c =
     let budget = c.requires.budget in
     let room : nat_lt (own.ledger.places.undecided + own.ledger.places.pending) own.section.max_spans ≡ true = grind (arith, nat_tests, budget) in
     let trace = c.requires.coming.1.trace in
-    let its_state = subst (λ (its_state : TraceState). IsTraceState c.args.span.now.trace its_state s) c.in-Decided-true.is c.requires.state in
+    let its_state = subst (λ (its_state : KeptState). IsKeptState c.args.span.now.trace its_state s) c.in-Decided.is c.requires.state in
     let none : has_row (trace_of x) s.waiting ≡ false = ap (λ (t : List ℕ). has_row t s.waiting) (sym trace) ∙ its_state.0 in
     let sampled : sampled_in (trace_of x) s.settled ≡ Some true =
-    ap (λ (t : List ℕ). sampled_in t s.settled) (sym trace) ∙ (its_state.1 ∙ ap (λ (b : Bool). Some b) c.in-Decided-true.field-0-test) in
+    ap (λ (t : List ℕ). sampled_in t s.settled) (sym trace) ∙ its_state.1 in
     on_ok_weaker c.admit_late.result
     (came_by (λ (t : State). grouped Undecided m (x ∷ []) (counted_in t)) (come m x) m ready journal c.admit_late.new.journal own c.admit_late.new.self p (part_in c.admit_late.new.self c.admit_late.new.stores) (it_comes_late m x s room none sampled) refl)
     c.admit_late.ensures.came
 
-pub returns-in-Decided-true-clause-written : goal.returns-in-Decided-true-clause-written
-returns-in-Decided-true-clause-written c = λ start first written.
+pub returns-in-Decided-clause-written : goal.returns-in-Decided-clause-written
+returns-in-Decided-clause-written c = λ start first written.
     let own = c.args.self.now in
     let p = part own.tenant c.args.stores.now in
     let journal = c.args.journal.now in
     let ready : Journal = record { placed = c.reserve.new.self; undo = journal.undo; hits = journal.hits } in
     c.admit_late.ensures.written start first (written_same journal ready start own first p c.reserve.ensures.items refl refl written)
 
-pub returns-in-Decided-false-clause-came : goal.returns-in-Decided-false-clause-came
-returns-in-Decided-false-clause-came c =
-    let own = c.args.self.now in
-    let p = part own.tenant c.args.stores.now in
-    let s = written_state_of own p in
-    let m = c.args.moment in
-    let x = arrival_at p c.args.keys.now.keys c.args.span.now.text in
-    let journal = c.args.journal.now in
-    let ready : Journal = record { placed = c.reserve.new.self; undo = journal.undo; hits = journal.hits } in
-    let budget = c.requires.budget in
-    let room : nat_lt (own.ledger.places.undecided + own.ledger.places.pending) own.section.max_spans ≡ true = grind (arith, nat_tests, budget) in
-    let trace = c.requires.coming.1.trace in
-    let its_state = subst (λ (its_state : TraceState). IsTraceState c.args.span.now.trace its_state s) c.in-Decided-false.is c.requires.state in
-    let none : has_row (trace_of x) s.waiting ≡ false = ap (λ (t : List ℕ). has_row t s.waiting) (sym trace) ∙ its_state.0 in
-    let sampled : sampled_in (trace_of x) s.settled ≡ Some false =
-    ap (λ (t : List ℕ). sampled_in t s.settled) (sym trace) ∙ (its_state.1 ∙ ap (λ (b : Bool). Some b) c.in-Decided-false.field-0-test) in
-    let new : Pipeline = record own { ledger = moved Undecided NotSampled 1 (taken 1 own.ledger) } in
-    subst (λ (o : Pipeline). Came (come m x) m journal ready own o p (part_in o c.args.stores.now)) (sym c.count_unsampled.ensures)
-    (came_by (λ (t : State). recount Undecided NotSampled 1 (counted_in t)) (come m x) m ready journal ready own new p p
-    (it_is_lost m x s room none sampled) refl (lost_came own p m c.requires.fits budget ready ready refl))
-
-pub returns-in-Decided-false-clause-written : goal.returns-in-Decided-false-clause-written
-returns-in-Decided-false-clause-written c = λ start first written.
-    let own = c.args.self.now in
-    let p = part own.tenant c.args.stores.now in
-    let journal = c.args.journal.now in
-    let ready : Journal = record { placed = c.reserve.new.self; undo = journal.undo; hits = journal.hits } in
-    subst (λ (o : Pipeline). IsWritten ready start o first (part_in o c.args.stores.now)) (sym c.count_unsampled.ensures)
-    (recounted (moved Undecided NotSampled 1 (taken 1 own.ledger)) ready start own first p (written_same journal ready start own first p c.reserve.ensures.items refl refl written))
-
-pub returns-in-Decided-false-clause-same : goal.returns-in-Decided-false-clause-same
-returns-in-Decided-false-clause-same c =
-    let own = c.args.self.now in
-    let is : IsSameTenant own (record own { ledger = moved Undecided NotSampled 1 (taken 1 own.ledger) }) = record { tenant = refl; section = refl; clock = refl; drained = refl } in
-    subst (λ (o : Pipeline). IsSameTenant own o) (sym c.count_unsampled.ensures) is
-
-pub hit-requires-clause-known : goal.hit-requires-clause-known
-hit-requires-clause-known c =
+pub hit_sampled-requires-clause-known : goal.hit_sampled-requires-clause-known
+hit_sampled-requires-clause-known c =
     let s = written_state_of c.args.self.now (part c.args.self.now.tenant c.args.stores.now) in
-    let its_state = subst (λ (its_state : TraceState). IsTraceState c.args.span.now.trace its_state s) c.in-Cached.is c.requires.state in
+    let its_state = subst (λ (its_state : KeptState). IsKeptState c.args.span.now.trace its_state s) c.in-Cached.is c.requires.state in
     its_state.2
 
 pub returns-in-Cached-clause-came : goal.returns-in-Cached-clause-came
@@ -128,14 +88,13 @@ returns-in-Cached-clause-came c =
     let budget = c.requires.budget in
     let room : nat_lt (own.ledger.places.undecided + own.ledger.places.pending) own.section.max_spans ≡ true = grind (arith, nat_tests, budget) in
     let trace = c.requires.coming.1.trace in
-    let its_state = subst (λ (its_state : TraceState). IsTraceState c.args.span.now.trace its_state s) c.in-Cached.is c.requires.state in
-    let b = c.in-Cached.sampled in
+    let its_state = subst (λ (its_state : KeptState). IsKeptState c.args.span.now.trace its_state s) c.in-Cached.is c.requires.state in
     let none : has_row (trace_of x) s.waiting ≡ false = ap (λ (t : List ℕ). has_row t s.waiting) (sym trace) ∙ its_state.0 in
     let sampled : sampled_in (trace_of x) s.settled ≡ None = ap (λ (t : List ℕ). sampled_in t s.settled) (sym trace) ∙ its_state.1 in
-    let known : found (trace_of x) s.caches ≡ Some b = ap (λ (t : List ℕ). found t s.caches) (sym trace) ∙ its_state.2 in
-    on_ok_weaker c.hit.result
-    (came_by (λ (t : State). cached_or_opens m x (Some b) (counted_in t)) (come m x) m ready journal c.hit.new.journal own c.hit.new.self p (part_in c.hit.new.self c.hit.new.stores) (it_hits m x s room b none sampled known) refl)
-    c.hit.ensures.came
+    let known : found (trace_of x) s.caches ≡ Some true = ap (λ (t : List ℕ). found t s.caches) (sym trace) ∙ its_state.2 in
+    on_ok_weaker c.hit_sampled.result
+    (came_by (λ (t : State). cached_or_opens m x (Some true) (counted_in t)) (come m x) m ready journal c.hit_sampled.new.journal own c.hit_sampled.new.self p (part_in c.hit_sampled.new.self c.hit_sampled.new.stores) (it_hits m x s room true none sampled known) refl)
+    c.hit_sampled.ensures.came
 
 pub returns-in-Cached-clause-written : goal.returns-in-Cached-clause-written
 returns-in-Cached-clause-written c = λ start first written.
@@ -143,7 +102,7 @@ returns-in-Cached-clause-written c = λ start first written.
     let p = part own.tenant c.args.stores.now in
     let journal = c.args.journal.now in
     let ready : Journal = record { placed = c.reserve.new.self; undo = journal.undo; hits = journal.hits } in
-    c.hit.ensures.written start first (written_same journal ready start own first p c.reserve.ensures.items refl refl written)
+    c.hit_sampled.ensures.written start first (written_same journal ready start own first p c.reserve.ensures.items refl refl written)
 
 pub returns-in-Nowhere-clause-came : goal.returns-in-Nowhere-clause-came
 returns-in-Nowhere-clause-came c =
@@ -157,7 +116,7 @@ returns-in-Nowhere-clause-came c =
     let budget = c.requires.budget in
     let room : nat_lt (own.ledger.places.undecided + own.ledger.places.pending) own.section.max_spans ≡ true = grind (arith, nat_tests, budget) in
     let trace = c.requires.coming.1.trace in
-    let its_state = subst (λ (its_state : TraceState). IsTraceState c.args.span.now.trace its_state s) c.in-Nowhere.is c.requires.state in
+    let its_state = subst (λ (its_state : KeptState). IsKeptState c.args.span.now.trace its_state s) c.in-Nowhere.is c.requires.state in
     let none : has_row (trace_of x) s.waiting ≡ false = ap (λ (t : List ℕ). has_row t s.waiting) (sym trace) ∙ its_state.0 in
     let sampled : sampled_in (trace_of x) s.settled ≡ None = ap (λ (t : List ℕ). sampled_in t s.settled) (sym trace) ∙ its_state.1 in
     let new : found (trace_of x) s.caches ≡ None = ap (λ (t : List ℕ). found t s.caches) (sym trace) ∙ its_state.2 in

@@ -1,4 +1,4 @@
-use Rattle.std.proofs.Common.{arith, ◌≡◌, ◌<◌, ◌+◌, ◌∙◌, ℕ, List, sym, ap, refl, subst, Bool, true, false, Some, None}
+use Rattle.std.proofs.Common.{arith, ◌≡◌, ◌<◌, ◌+◌, ◌∙◌, ℕ, List, sym, ap, refl, subst, true, false, Some, None}
 use Rattle.std.specs.Prelude.{nat_lt}
 use Rattle.std.proofs.lemmas.Bool.Decides.{nat_tests}
 use Rattle.std.proofs.lemmas.Result.{on_ok_weaker}
@@ -24,25 +24,25 @@ pub returns-then-not-has_room-clause-came : goal.returns-then-not-has_room-claus
 returns-then-not-has_room-clause-came c =
     no_room c.args.moment c.args.origins.now c.args.journal.now c.args.held.now c.args.span.now c.args.self.now (part_in c.args.self.now c.args.stores.now) c.requires.next (sym c.has_room.ensures ∙ c.if-not-has_room.true)
 
-pub returns-in-Decided-false-clause-full : goal.returns-in-Decided-false-clause-full
-returns-in-Decided-false-clause-full c = λ full.
+pub returns-in-Unsampled-clause-full : goal.returns-in-Unsampled-clause-full
+returns-in-Unsampled-clause-full c = λ full.
     let contrary : true ≡ false = sym c.if-not-has_room.false ∙ (c.has_room.ensures ∙ full) in
     cc
 
-pub returns-in-Cached-false-clause-full : goal.returns-in-Cached-false-clause-full
-returns-in-Cached-false-clause-full c = λ full.
+pub returns-in-CachedUnsampled-clause-full : goal.returns-in-CachedUnsampled-clause-full
+returns-in-CachedUnsampled-clause-full c = λ full.
     let contrary : true ≡ false = sym c.if-not-has_room.false ∙ (c.has_room.ensures ∙ full) in
     cc
 
-pub returns-in_default-clause-full : goal.returns-in_default-clause-full
-returns-in_default-clause-full c = λ full.
+pub returns-in-Kept-clause-full : goal.returns-in-Kept-clause-full
+returns-in-Kept-clause-full c = λ full.
     let contrary : true ≡ false = sym c.if-not-has_room.false ∙ (c.has_room.ensures ∙ full) in
     cc
 
 -- ---- its trace was decided, and isn't sampled
 
-pub returns-in-Decided-false-clause-came : goal.returns-in-Decided-false-clause-came
-returns-in-Decided-false-clause-came c =
+pub returns-in-Unsampled-clause-came : goal.returns-in-Unsampled-clause-came
+returns-in-Unsampled-clause-came c =
     let own = c.args.self.now in
     let p = part_in own c.args.stores.now in
     let s = written_state_of own p in
@@ -53,18 +53,18 @@ returns-in-Decided-false-clause-came c =
     let test : nat_lt (own.ledger.places.undecided + own.ledger.places.pending) own.section.max_spans ≡ true = room in
     let budget : own.ledger.places.undecided + own.ledger.places.pending < own.section.max_spans = grind (arith, nat_tests, test) in
     let trace = c.requires.next.ready.trace in
-    let its_state = c.in-Decided-false.ensures.state in
+    let its_state = c.in-Unsampled.ensures.state in
     let none : has_row (trace_of x) s.waiting ≡ false = ap (λ (t : List ℕ). has_row t s.waiting) (sym trace) ∙ its_state.0 in
     let sampled : sampled_in (trace_of x) s.settled ≡ Some false =
-    ap (λ (t : List ℕ). sampled_in t s.settled) (sym trace) ∙ (its_state.1 ∙ ap (λ (b : Bool). Some b) c.in-Decided-false.field-0-test) in
+    ap (λ (t : List ℕ). sampled_in t s.settled) (sym trace) ∙ its_state.1 in
     let new : Pipeline = record own { ledger = moved Undecided NotSampled 1 (taken 1 own.ledger) } in
     let came = came_by (λ (t : State). recount Undecided NotSampled 1 (counted_in t)) (come m x) m journal journal journal own new p p
     (it_is_lost m x s room none sampled) refl (lost_came own p m c.requires.fits budget journal journal refl) in
     subst (λ (o : Pipeline). CameNext (come m x) m journal c.args.origins.now c.args.held.now own o p (part_in o c.args.stores.now)) (sym c.count_unsampled.ensures)
     (unkept (come m x) m c.args.origins.now journal c.args.held.now c.args.span.now own new p c.requires.next came)
 
-pub returns-in-Decided-false-clause-written : goal.returns-in-Decided-false-clause-written
-returns-in-Decided-false-clause-written c = λ start first written.
+pub returns-in-Unsampled-clause-written : goal.returns-in-Unsampled-clause-written
+returns-in-Unsampled-clause-written c = λ start first written.
     let own = c.args.self.now in
     let p = part_in own c.args.stores.now in
     let journal = c.args.journal.now in
@@ -73,8 +73,8 @@ returns-in-Decided-false-clause-written c = λ start first written.
     subst (λ (o : Pipeline). IsWrittenWith journal c.args.held.now start o first (part_in o c.args.stores.now)) (sym c.count_unsampled.ensures)
     (written_on c.args.held.now journal journal own new p p (λ s f w. recounted ledger journal s own f p w) start first written)
 
-pub returns-in-Decided-false-clause-same : goal.returns-in-Decided-false-clause-same
-returns-in-Decided-false-clause-same c =
+pub returns-in-Unsampled-clause-same : goal.returns-in-Unsampled-clause-same
+returns-in-Unsampled-clause-same c =
     let own = c.args.self.now in
     let is : IsSameTenant own (record own { ledger = moved Undecided NotSampled 1 (taken 1 own.ledger) }) = record { tenant = refl; section = refl; clock = refl; drained = refl } in
     subst (λ (o : Pipeline). IsSameTenant own o) (sym c.count_unsampled.ensures) is
@@ -82,10 +82,10 @@ returns-in-Decided-false-clause-same c =
 -- ---- a cache knows that it isn't
 
 pub hit_unsampled-requires-clause-known : goal.hit_unsampled-requires-clause-known
-hit_unsampled-requires-clause-known c = c.in-Cached-false.ensures.state.2 ∙ ap (λ (b : Bool). Some b) c.in-Cached-false.field-0-test
+hit_unsampled-requires-clause-known c = c.in-CachedUnsampled.ensures.state.2
 
-pub returns-in-Cached-false-clause-came : goal.returns-in-Cached-false-clause-came
-returns-in-Cached-false-clause-came c =
+pub returns-in-CachedUnsampled-clause-came : goal.returns-in-CachedUnsampled-clause-came
+returns-in-CachedUnsampled-clause-came c =
     let own = c.args.self.now in
     let new = c.hit_unsampled.new.self in
     let p = part_in own c.args.stores.now in
@@ -95,11 +95,11 @@ returns-in-Cached-false-clause-came c =
     let journal = c.args.journal.now in
     let room : nat_lt (held_spans s) s.section.max_spans ≡ true = sym c.has_room.ensures ∙ c.if-not-has_room.false in
     let trace = c.requires.next.ready.trace in
-    let its_state = c.in-Cached-false.ensures.state in
+    let its_state = c.in-CachedUnsampled.ensures.state in
     let none : has_row (trace_of x) s.waiting ≡ false = ap (λ (t : List ℕ). has_row t s.waiting) (sym trace) ∙ its_state.0 in
     let sampled : sampled_in (trace_of x) s.settled ≡ None = ap (λ (t : List ℕ). sampled_in t s.settled) (sym trace) ∙ its_state.1 in
     let known : found (trace_of x) s.caches ≡ Some false =
-    ap (λ (t : List ℕ). found t s.caches) (sym trace) ∙ (its_state.2 ∙ ap (λ (b : Bool). Some b) c.in-Cached-false.field-0-test) in
+    ap (λ (t : List ℕ). found t s.caches) (sym trace) ∙ its_state.2 in
     let tenant = c.hit_unsampled.ensures.same.tenant in
     on_ok_weaker c.hit_unsampled.result
     (λ (came : CameUnsampled c.args.span.now.trace own new).
@@ -109,8 +109,8 @@ returns-in-Cached-false-clause-came c =
     (unkept (come m x) m c.args.origins.now journal c.args.held.now c.args.span.now own new p c.requires.next here))
     c.hit_unsampled.ensures.came
 
-pub returns-in-Cached-false-clause-written : goal.returns-in-Cached-false-clause-written
-returns-in-Cached-false-clause-written c = λ start first written.
+pub returns-in-CachedUnsampled-clause-written : goal.returns-in-CachedUnsampled-clause-written
+returns-in-CachedUnsampled-clause-written c = λ start first written.
     let own = c.args.self.now in
     let new = c.hit_unsampled.new.self in
     let p = part_in own c.args.stores.now in

@@ -2,7 +2,7 @@ use Rattle.std.proofs.Common.{◌++◌, ℕ, List, [], append-nil, subst, sym}
 use Rattle.std.proofs.lemmas.Result.{on_ok_weaker}
 use Rattle.tenant_stores.specs.Invariant.{StoreInvariant}
 use Rattle.tenant_rules.specs.State.{State}
-use Rattle.tenant_pipeline.specs.Posts.{held_keys, IsTraceState}
+use Rattle.tenant_pipeline.specs.Posts.{held_keys, IsKeptState}
 use Rattle.tenant_pipeline.specs.StateIn.{counts_in, part_in}
 use Rattle.tenant_pipeline.proofs.Holds.{came_held, is_coming_held, state_held, written_kept, written_more, written_on}
 use Rattle.tenant_pipeline.proofs.Lasts.{last_held, number_held}
@@ -40,7 +40,7 @@ pub admit-requires-clause-state : goal.admit-requires-clause-state
 admit-requires-clause-state c =
     let own = c.args.self.now in
     let made = c.in_ok-place.ensures in
-    subst (λ (s : State). IsTraceState c.args.span.now.trace c.args.state s)
+    subst (λ (s : State). IsKeptState c.args.span.now.trace c.args.state s)
     (sym (state_held c.args.moment c.args.journal.now c.args.origins.now c.args.held.now c.hold.new.self c.args.span.now own (part_in own c.args.stores.now) (part_in own c.hold.new.stores) c.requires.next
     made.uses_added made.store_invariant made.shows))
     c.requires.state

@@ -4,9 +4,9 @@ use Rattle.tail_policy.specs.declared.note.TraceNote.{TraceNote}
 use Rattle.trace_rows.specs.declared.table.Row.{Row}
 use Rattle.tenant_stores.specs.Part.{part}
 use Rattle.tenant_pipeline.specs.declared.place.TraceState.{TraceState}
-use Rattle.tenant_pipeline.specs.Posts.{IsTraceState, IsTraceStateAt}
+use Rattle.tenant_pipeline.specs.Posts.{IsTraceState, IsTraceStateAt, state_by_verdict}
 use Rattle.tenant_pipeline.specs.StateIn.{counts_in, written_state_of}
-use Rattle.tenant_pipeline.proofs.TraceStates.{absent_at, is_absent, is_decided, it_waits}
+use Rattle.tenant_pipeline.proofs.TraceStates.{absent_at, decided_at, is_absent, is_decided, it_waits}
 use Rattle.tenant_pipeline.proofs.pipeline.Pipeline.trace_state.Goals as goal
 
 pub returns-in_default-clause-state : goal.returns-in_default-clause-state
@@ -56,5 +56,11 @@ returns-clause-state c =
     let decided = shows.decided c.in-Some.number (sym c.latest_row.ensures.value ∙ c.in-Some.is) c.if-number-self.false c.if-number-self-2.false in
     let both : Path (Option (Row TraceNote)) (Some decided.row) (Some c.in-Some-row.row.now) = sym decided.there ∙ sym c.in-Some-row.ensures in
     let same : decided.row ≡ c.in-Some-row.row.now = cc in
-    let its_state = is_decided own p c.args.trace c.in-Some.number decided in
-    (its_state.0, its_state.1 ∙ ap (λ (r : Row TraceNote). Some r.sampled) same)
+    let verdict : state_by_verdict decided.row.sampled ≡ c.decided_state.result = ap (λ (r : Row TraceNote). state_by_verdict r.sampled) same ∙ sym c.decided_state.ensures in
+    subst (λ (its_state : TraceState). IsTraceState c.args.trace its_state (written_state_of own p)) verdict (is_decided own p c.args.trace c.in-Some.number decided)
+
+pub returns-clause-number : goal.returns-clause-number
+returns-clause-number c =
+    let own = c.args.self.now in
+    let p = part own.tenant c.args.stores.now in
+    subst (λ (its_state : TraceState). IsTraceStateAt c.args.trace its_state own p) (sym c.decided_state.ensures) (decided_at own p c.args.trace c.in-Some-row.row.now.sampled)
