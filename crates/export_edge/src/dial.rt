@@ -12,39 +12,48 @@ use job_lane::Job;
 use send_retry::Answer;
 use std::alloc::Global;
 
-/// Makes lines to back ends.
+/// Makes lines to back ends, and takes them back.
 pub trait Dial {
-    /// A line to a back end.
-    type Connection: Line + Drop;
+    /// A line to a back end. It needn't be `Drop`: who was given one can't let it go, and hands it back.
+    type Connection: Line;
 
     // From the first state this address is dialed, this line comes of it, or none, and the second state is left.
     ghost dials: { Self → List ℕ → Option Self.Connection → Self → Type 0 };
 
+    // In the first state this line is given up, in its last state, and the second state is left.
+    ghost hangs_up: { Self → Self.Connection → Self → Type 0 };
+
     /// A new line to a host and a port. None where none comes about.
     fn dial(&mut self, address: &str) -> Option<Self::Connection>
         ensures { dials self.old address.now result self.new };
+
+    /// Gives up a line: a connection is closed.
+    fn hang_up(&mut self, line: Self::Connection)
+        ensures { hangs_up self.old line self.new };
 }
 
-/// Posts a job over a line of its own to its tenant's address. It fails where there is no address, no line comes about,
-/// or no whole answer comes.
+/// Posts a job over a line of its own to its tenant's address, and hangs up. It fails where there is no address, no
+/// line comes about, or no whole answer comes.
 pub fn post_job<A: Addresses, D: Dial>(
     alloc: Global,
     dialer: &mut D,
     addresses: &A,
     job: &Job,
 ) -> Answer
-    ensures { JobComesTo A.tells D.dials D.Connection.gives D.Connection.takes D.Connection.ends
-        D.Connection.failed addresses.now dialer.old dialer.new
+    ensures { JobComesTo A.tells D.dials D.hangs_up D.Connection.gives D.Connection.takes
+        D.Connection.ends D.Connection.failed addresses.now dialer.old dialer.new
         (posted job.now (answer_view result)) }
 {
     let Some(address) = addresses.address(job.tenant) else {
         return Answer::Failed;
     };
     let host = address.as_str();
-    match dialer.dial(host) {
-        Some(mut line) => post_over(alloc, &mut line, host, job.payload.as_slice()),
-        None => Answer::Failed,
-    }
+    let Some(mut line) = dialer.dial(host) else {
+        return Answer::Failed;
+    };
+    let answer = post_over(alloc, &mut line, host, job.payload.as_slice());
+    dialer.hang_up(line);
+    answer
 }
 
 /// Posts each job over a line of its own to its tenant's address. It waits for as long as the line does.
@@ -76,8 +85,8 @@ impl<A: Addresses, D: Dial> BackEnd for DialingBackEnd<A, D> {
 
     // Each job goes to its own tenant's address, and who tells the addresses stays.
     ghost posts = { λ old p new. (new.addresses ≡ old.addresses)
-        × JobComesTo A.tells D.dials D.Connection.gives D.Connection.takes D.Connection.ends D.Connection.failed
-        old.addresses old.dialer new.dialer p };
+        × JobComesTo A.tells D.dials D.hangs_up D.Connection.gives D.Connection.takes D.Connection.ends
+        D.Connection.failed old.addresses old.dialer new.dialer p };
 
     fn post(&mut self, job: &Job) -> Answer {
         post_job(self.alloc, &mut self.dialer, &self.addresses, job)

@@ -24,6 +24,8 @@ impl<'a, R: Net + Clock> Dial for TcpDialer<'a, R> {
     // What a connection reaches is not known.
     ghost dials = { λ _ _ _ _. Unit {0} };
 
+    ghost hangs_up = { λ _ _ _. Unit {0} };
+
     fn dial(&mut self, address: &str) -> Option<StreamLine<Attempt<'a, R, R::Stream>>> {
         let deadline = match self.limit {
             Some(limit) => Some(Deadline::from_now(self.rt, limit).ok()?),
@@ -36,6 +38,10 @@ impl<'a, R: Net + Clock> Dial for TcpDialer<'a, R> {
         // A post is two writes, and the second isn't to wait until the first has been acknowledged.
         let _delays_at_worst = stream.set_nodelay(true);
         Some(StreamLine::new(Attempt { stream, deadline }))
+    }
+
+    fn hang_up(&mut self, line: StreamLine<Attempt<'a, R, R::Stream>>) {
+        drop(line);
     }
 }
 

@@ -8,12 +8,13 @@ use std::alloc::{AllocError, Global};
 use std::cell::Cell;
 use std::process::Abort;
 
-/// Notes the last digits of the addresses that it was asked for. At each but the third tenant's a back end answers with
-/// its address as the body.
+/// Notes the last digits of the addresses that it was asked for, and those of the hosts in what was written over the
+/// lines that it was handed back. At each but the third tenant's a back end answers with its address as the body.
 #[derive(Drop)]
 struct Directory<'a> {
     alloc: Global,
     asked: &'a Cell<u32>,
+    hung_up: &'a Cell<u32>,
 }
 
 impl Dial for Directory<'_> {
@@ -21,15 +22,35 @@ impl Dial for Directory<'_> {
 
     ghost dials = { λ _ _ _ _. Unit {0} };
 
+    ghost hangs_up = { λ _ _ _. Unit {0} };
+
     fn dial(&mut self, address: &str) -> Option<MemoryLine> {
         let digit: u32 = address.strip_prefix("h:")?.parse().ok()?;
-        self.asked
-            .set(self.asked.get().wrapping_mul(10).wrapping_add(digit));
+        note(self.asked, digit);
         if digit == 3 {
             return None;
         }
         answering(self.alloc, address).ok()
     }
+
+    fn hang_up(&mut self, line: MemoryLine) {
+        for words in line.output().windows(9) {
+            if let Some(digit) = host_at(words) {
+                note(self.hung_up, digit);
+            }
+        }
+    }
+}
+
+/// The last digit of the address that these bytes name as a post's host, if they do.
+fn host_at(words: &[u8]) -> Option<u32> {
+    let digit = words.strip_prefix(b"Host: h:".as_slice())?.first()?;
+    Some(u32::from(digit.wrapping_sub(b'0')))
+}
+
+/// Puts a digit behind those that were noted.
+fn note(digits: &Cell<u32>, digit: u32) {
+    digits.set(digits.get().wrapping_mul(10).wrapping_add(digit));
 }
 
 /// A line over which an answer with this body of three bytes comes.
@@ -57,14 +78,15 @@ fn told_of(answer: &Answer) -> &[u8] {
 }
 
 /// What jobs of these tenants come to.
-fn posted(rt: &impl Abort, alloc: Global, asked: &Cell<u32>, tenants: &[u32]) -> Vec<u8> {
+fn posted(rt: &impl Abort, directory: Directory<'_>, tenants: &[u32]) -> Vec<u8> {
+    let alloc = directory.alloc;
     let addresses = [
         address(rt, alloc, "h:1"),
         address(rt, alloc, "h:2"),
         address(rt, alloc, "h:3"),
     ];
     let list = AddressList::new(&addresses);
-    let mut back_end = DialingBackEnd::over(Directory { alloc, asked }, alloc, list);
+    let mut back_end = DialingBackEnd::over(directory, alloc, list);
     let mut told = Vec::new(alloc);
     for tenant in tenants {
         let answer = back_end.post(&job(*tenant, 1));
@@ -74,11 +96,18 @@ fn posted(rt: &impl Abort, alloc: Global, asked: &Cell<u32>, tenants: &[u32]) ->
     told
 }
 
-/// The fourth and the fifth tenant have no address, and nobody is asked for one.
+/// The fourth and the fifth tenant have no address, and nobody is asked for one. Each line comes back with one post.
 #[test]
 fn each_job_goes_to_its_own_address(rt: HostRuntime) {
     let asked = Cell::new(0u32);
-    let told = posted(&rt, rt.alloc(), &asked, &[4, 1, 0, 2, 3, 1]);
+    let hung_up = Cell::new(0u32);
+    let directory = Directory {
+        alloc: rt.alloc(),
+        asked: &asked,
+        hung_up: &hung_up,
+    };
+    let told = posted(&rt, directory, &[4, 1, 0, 2, 3, 1]);
     assert!(rt; told.as_slice() == b"-h:2h:1--h:2".as_slice());
     assert_eq!(rt; asked.get(), 2132);
+    assert_eq!(rt; hung_up.get(), 212);
 }
