@@ -147,6 +147,9 @@ sampled_cache_size = 0
 type = "always_sample"
 """
 WAIT = "[tenant.tail_sampling]\ndecision_wait%s\n[[tenant.tail_sampling.policy]]"
+# a tenant of 65 policies, and a thousand tenants of one
+CROWDED = TENANT + '[[tenant.tail_sampling.policy]]\ntype = "always_sample"\n' * 64
+OTHERS = [TENANT.replace('"a"', f'"t{number}"') for number in range(1000)]
 # a document, and what `check` says of it: the faults 10 to 15 in turn, in each kind of table
 FAULTY = [
     ("name =", "settings fault 10\nthe text is no TOML document\nTOML parse error at line 1, column "),
@@ -172,8 +175,9 @@ FAULTY = [
      { type = "latency" }] }]""", "settings fault 11 threshold_ms\ntenant 1 (a), policy 2 (slow): the key threshold_ms is missing\n"
      "threshold_ms may be: whole milliseconds from 0 to 1099511627776\n"
      "# warning: tenant 1 (a), policy 2: no setting has the key name, so it is ignored\n"),
-    (TENANT + '[[tenant.tail_sampling.policy]]\ntype = "always_sample"\n' * 64, "settings fault 15\ntenant 1 (a), more than 64 "
-     "policies, where an and counts as those that it holds\n"),
+    *((CROWDED + "".join(others), "settings fault 15\ntenant 1 (a), more than 64 policies, where an and counts as those that it "
+       "holds\n") for others in ([], OTHERS[1:])),
+    *((first + "".join(OTHERS), "settings fault 15\nthe document: more than 1000 tenants\n") for first in (TENANT, CROWDED)),
     (TENANT.replace("[[tenant.", "max_spans = 2147483648\n[[tenant.") + TENANT.replace('"a"', '"b"'), "settings fault 15\n"
      "the document: the max_spans of all tenants are above 2147483648 together\n"),
 ]

@@ -1,5 +1,5 @@
 -- What is said of a document's fault. This project's own rule.
-use Rattle.std.specs.Prelude.{codes, ℕ, List, [], ◌++◌, length, ◌==◌, nat_le, if◌then◌else◌, Option, Some, None}
+use Rattle.std.specs.Prelude.{codes, ℕ, List, [], ◌++◌, length, ◌==◌, nat_lt, if◌then◌else◌, Option, Some, None}
 use Rattle.std.specs.Fmt.{decimal}
 use Rattle.tail_settings.specs.Fault.{FaultData, not_toml, missing_key, wrong_kind, out_of_range, double_tenant, too_many}
 use Rattle.settings_check.specs.declared.table.Key.{Key}
@@ -27,15 +27,17 @@ abbrev pub double_text : List ℕ → List ℕ
 double_text name =
     codes "settings fault 14 " ++ name ++ codes "\na second tenant has the name " ++ name ++ codes "\n"
 
--- what there is too much of: policies of the tenant that it is in, or else tenants, or else spans of all of them
+-- what there is too much of: tenants, of which a document is refused before any of them is read, whatever one of them
+-- has by itself; or else policies of the tenant that it is in; or else spans of all tenants
 abbrev pub too_much : PlaceData → List ℕ
 too_much place =
-    if length place.tenant == 0 then if nat_le place.count 1000 then MANY_SPANS.now else MANY_TENANTS.now
-    else MANY_POLICIES.now
+    if nat_lt 1000 place.count then MANY_TENANTS.now
+    else if length place.tenant == 0 then MANY_SPANS.now
+    else place.tenant ++ MANY_POLICIES.now
 
 -- the line that says so
 abbrev pub many_text : PlaceData → List ℕ
-many_text place = codes "settings fault 15\n" ++ place.tenant ++ too_much place
+many_text place = codes "settings fault 15\n" ++ too_much place
 
 -- what is said of a fault, with the words of where it is; the reader's own words on a text that is no TOML document
 abbrev pub fault_text : PlaceData → FaultData → List ℕ → List ℕ

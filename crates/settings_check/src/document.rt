@@ -321,7 +321,10 @@ fn document(alloc: Global, settings: &Settings) -> Result<Table, AllocError>
     Ok(table)
 }
 
-/// The document that says all of some settings. Where they come from a document, they are what this one means too.
+/// The document that says all of some settings that a document can say: no numbers of tenants, and no bound of their
+/// queues' bytes. Settings that were loaded, and not changed since, are what it means too. `bound_queues` and `strike`
+/// change what it doesn't say: then it means settings without that bound, whose tenants are numbered from 0, or none
+/// where no tenant is left.
 pub fn settings_text(alloc: Global, settings: &Settings) -> Result<String, AllocError>
     ensures text { IfOk result (λ text.
         IsDocumentText false (document_of (settings_view settings.now)) (string_bytes text)) }

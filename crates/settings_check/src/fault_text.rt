@@ -8,6 +8,7 @@ ghost use Rattle.settings_check.specs.Place.{place_view};
 
 use crate::place::Place;
 use crate::table::{TableKind, find_key};
+use crate::unknown::joined;
 use std::alloc::{AllocError, Global};
 use tail_settings::SettingsFault;
 
@@ -66,27 +67,25 @@ fn double_text(alloc: Global, name: &str) -> Result<String, AllocError>
     Ok(text)
 }
 
-/// What there is too much of: in a tenant, or else in all of them.
-fn too_much(place: &Place) -> &'static str
-    ensures { result.now ≡ too_much (place_view place.now) }
+/// What there is too much of: tenants, or else policies of one, behind the words of that one, or else spans.
+fn too_much(alloc: Global, place: &Place) -> Result<String, AllocError>
+    ensures { IfOk result (λ text. string_bytes text ≡ too_much (place_view place.now)) }
 {
-    if !place.tenant.is_empty() {
-        return MANY_POLICIES;
+    if place.count > 1000 {
+        return String::from_str(alloc, MANY_TENANTS);
     }
-    if place.count <= 1000 {
-        MANY_SPANS
-    } else {
-        MANY_TENANTS
+    if place.tenant.is_empty() {
+        return String::from_str(alloc, MANY_SPANS);
     }
+    joined(alloc, place.tenant.as_str(), MANY_POLICIES)
 }
 
 /// What is said of too much of something.
 fn many_text(alloc: Global, place: &Place) -> Result<String, AllocError>
     ensures { IfOk result (λ text. string_bytes text ≡ many_text (place_view place.now)) }
 {
-    let tenant = place.tenant.as_str();
-    let what = too_much(place);
-    let text = format!(in alloc; "settings fault 15\n{tenant}{what}")?;
+    let what = too_much(alloc, place)?;
+    let text = format!(in alloc; "settings fault 15\n{what}")?;
     Ok(text)
 }
 

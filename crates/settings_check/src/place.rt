@@ -33,8 +33,9 @@ pub enum Level {
 pub struct Place {
     /// How many tenants the document has.
     pub count: usize,
-    /// The words of its tenant, with a comma and a blank behind them. Nothing where it is in none: what holds for all
-    /// tenants, a name that two have, and a sum over all of them.
+    /// The words of its tenant, with a comma and a blank behind them. Nothing where no tenant has it by itself: what
+    /// holds for all tenants, a name that two have, and a sum over all of them. Where there are too many tenants, the
+    /// words are those of one that has too many policies, if any has.
     pub tenant: String,
     /// The words of its policy, if it is in one.
     pub policy: String,
