@@ -10,6 +10,7 @@ use Rattle.tail_policy.specs.declared.note.TraceNote.{TraceNote}
 use Rattle.tail_settings.specs.Section.{section_view}
 use Rattle.tenant_rules.specs.State.{State}
 use Rattle.tenant_rules.specs.Ready.{ready}
+use Rattle.tenant_rules.specs.Limits.{IsWithinLimits}
 use Rattle.tenant_rules.specs.Sum.{IsCounted}
 use Rattle.tenant_stores.specs.declared.stores.Stores.{Stores}
 use Rattle.tenant_stores.specs.Counts.{no_rows}
@@ -22,7 +23,7 @@ use Rattle.tenant_shard.specs.View.{kept_of, was_of, StaysOf}
 use Rattle.tenant_shard.specs.Members.{views, AllAbove, AreInOrder, IsPlaceOf, IsGapFor}
 use Rattle.tenant_shard.specs.Pick.{ready_in}
 use Rattle.tenant_shard.specs.Steps.{IsChangeOf}
-use Rattle.tenant_shard.specs.Whole.{AllHeld, AllSwept, IsWhole, AllCounted}
+use Rattle.tenant_shard.specs.Whole.{AllHeld, AllSwept, IsWhole, AllCounted, AllWithin}
 use Rattle.tenant_shard.proofs.Places.{AreInOrder-set, AreInOrder-insert, AreInOrder-remove}
 
 -- a member whose part is the same is seen the same, and what holds of it holds
@@ -171,17 +172,23 @@ swept_insert [] (suc i) m gap all swept = absurd gap
 swept_insert (x ∷ ms) zero m gap all swept = (swept, all)
 swept_insert (x ∷ ms) (suc i) m gap all swept = (all.0, swept_insert ms i m gap.1 all.1 swept)
 
--- each member's spans are counted once
-counted_at : (t : ℕ) (stores : Stores TraceNote) (ms : List Pipeline) → AllHeld stores ms → IfSome (kept_of t (views stores ms)) IsCounted
-counted_at t stores [] all = tt
-counted_at t stores (x ∷ ms) all = by_test (eqb x.tenant t) (counted_at t stores ms all.1)
+-- what always holds of a member's state holds of what is kept of whichever tenant
+of_kept : (P : State → Type 0) (t : ℕ) (stores : Stores TraceNote) (ms : List Pipeline) → ((m : Pipeline) → PipelineInvariant m stores → P (state_in m stores)) →
+    AllHeld stores ms → IfSome (kept_of t (views stores ms)) P
+of_kept P t stores [] of_member all = tt
+of_kept P t stores (x ∷ ms) of_member all = by_test (eqb x.tenant t) (of_kept P t stores ms of_member all.1)
   where
-    by_test : (b : Bool) → IfSome (kept_of t (views stores ms)) IsCounted → IfSome (cond b (Some (state_in x stores)) (kept_of t (views stores ms))) IsCounted
-    by_test true rest = all.0.whole.counted
+    by_test : (b : Bool) → IfSome (kept_of t (views stores ms)) P → IfSome (cond b (Some (state_in x stores)) (kept_of t (views stores ms))) P
+    by_test true rest = of_member x all.0
     by_test false rest = rest
 
+-- each member's spans are counted once
 pub all_counted : (stores : Stores TraceNote) (es : List AgendaEntry) (ms : List Pipeline) → IsWhole stores es ms → AllCounted (views stores ms)
-all_counted stores es ms whole = λ t. counted_at t stores ms whole.held
+all_counted stores es ms whole = λ t. of_kept IsCounted t stores ms (λ m held. held.whole.counted) whole.held
+
+-- and each member is within its limits
+pub all_within : (stores : Stores TraceNote) (es : List AgendaEntry) (ms : List Pipeline) → IsWhole stores es ms → AllWithin (views stores ms)
+all_within stores es ms whole = λ t. of_kept IsWithinLimits t stores ms (λ m held. held.whole.within) whole.held
 
 -- the whole shard after a step of the member at a place
 pub whole_set : (t : ℕ) (old new : Stores TraceNote) (es es' : List AgendaEntry) (ms : List Pipeline) (i : ℕ) (m : Pipeline) → IsWhole old es ms → IsPlaceOf t ms i → m.tenant ≡ t → Others t old new → PipelineInvariant m new → IsSwept m →

@@ -16,14 +16,15 @@ use Rattle.tail_policy.specs.declared.note.TraceNote.{TraceNote}
 use Rattle.tenant_stores.specs.declared.stores.Stores.{Stores}
 use Rattle.tenant_rules.specs.State.{State}
 use Rattle.tenant_rules.specs.Ready.{ready}
+use Rattle.tenant_rules.specs.Limits.{IsWithinLimits}
 use Rattle.tenant_rules.specs.Sum.{IsCounted}
 use Rattle.tenant_pipeline.specs.declared.pipeline.Pipeline.{Pipeline}
 use Rattle.tenant_shard.specs.View.{View, kept_of, was_of, StaysOf}
 use Rattle.tenant_shard.specs.Members.{views, gone_view, all_views, is_gone}
 use Rattle.tenant_shard.specs.Steps.{IsChangeOf, IsAdditionOf, IsDepartureOf}
-use Rattle.tenant_shard.specs.Whole.{IsWhole, AreGone, AllCounted}
+use Rattle.tenant_shard.specs.Whole.{IsWhole, AreGone, AllCounted, AllWithin}
 use Rattle.tenant_shard.specs.Pick.{ready_in}
-use Rattle.tenant_shard.proofs.Frame.{all_counted}
+use Rattle.tenant_shard.proofs.Frame.{all_counted, all_within}
 use Rattle.tail_settings.specs.Section.{SectionData}
 
 -- numbers of tenants that have gone change nothing of what is kept, and were members
@@ -95,6 +96,10 @@ ready_all stores es ms gs whole t = whole.ready t ∙ ap (option_and_then ready)
 -- each member's spans are counted once
 pub counted_all : (stores : Stores TraceNote) (es : List AgendaEntry) (ms : List Pipeline) (gs : List ℕ) → IsWhole stores es ms → AllCounted (all_views stores ms gs)
 counted_all stores es ms gs whole = λ t. subst (λ (o : Option State). IfSome o IsCounted) (sym (kept_behind t (views stores ms) gs)) (all_counted stores es ms whole t)
+
+-- and each member is within its limits
+pub within_all : (stores : Stores TraceNote) (es : List AgendaEntry) (ms : List Pipeline) (gs : List ℕ) → IsWhole stores es ms → AllWithin (all_views stores ms gs)
+within_all stores es ms gs whole = λ t. subst (λ (o : Option State). IfSome o IsWithinLimits) (sym (kept_behind t (views stores ms) gs)) (all_within stores es ms whole t)
 
 -- one number more
 is_gone-insert : (u t : ℕ) (gs : List ℕ) (i : ℕ) → is_gone u (insert gs i t) ≡ (eqb t u || is_gone u gs)

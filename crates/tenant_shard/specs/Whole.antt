@@ -4,6 +4,7 @@ use Rattle.std.specs.List.Sorted.{IsNonDecreasing}
 use Rattle.shard_agenda.specs.declared.AgendaEntry.{AgendaEntry}
 use Rattle.shard_agenda.specs.Agenda.{ready_of, is_member}
 use Rattle.tail_policy.specs.declared.note.TraceNote.{TraceNote}
+use Rattle.tenant_rules.specs.Limits.{IsWithinLimits}
 use Rattle.tenant_rules.specs.Sum.{IsCounted}
 use Rattle.tenant_stores.specs.declared.stores.Stores.{Stores}
 use Rattle.tenant_stores.specs.Counts.{no_rows}
@@ -53,3 +54,7 @@ pub record IsShard (stores : Stores TraceNote) (agenda : List AgendaEntry) (memb
 -- each span that a member has taken is counted in exactly one place
 abbrev pub AllCounted : List View → Type 0
 AllCounted views = (tenant : ℕ) → IfSome (kept_of tenant views) IsCounted
+
+-- what is kept of each member is within its limits
+abbrev pub AllWithin : List View → Type 0
+AllWithin views = (tenant : ℕ) → IfSome (kept_of tenant views) IsWithinLimits

@@ -78,7 +78,7 @@ impl Shard {
     ghost use Rattle.tenant_shard.specs.Empty.{is_empty};
     ghost use Rattle.tenant_shard.specs.Stop.{IsStopped};
     ghost use Rattle.tenant_shard.specs.Waiting.{IsWaiting, usage_in};
-    ghost use Rattle.tenant_shard.specs.Whole.{AllCounted};
+    ghost use Rattle.tenant_shard.specs.Whole.{AllCounted, AllWithin};
 
     /// Opens a shard of the tenants of the settings whose numbers stand in `members`, with no steps so far, which are
     /// the numbers that are used. Other numbers count for nothing, and one that stands there twice counts once. Trace
@@ -87,6 +87,7 @@ impl Shard {
         ensures stands { IfOk result (ShardStands
             (opened (settings_view settings.now) members.now)) }
         ensures counted { IfOk result AllCounted }
+        ensures within { IfOk result AllWithin }
     {
         Shard::open_with_keys(alloc, settings, members, FIXED_KEYS)
     }
@@ -102,6 +103,7 @@ impl Shard {
         ensures stands { IfOk result (ShardStands
             (opened (settings_view settings.now) members.now)) }
         ensures counted { IfOk result AllCounted }
+        ensures within { IfOk result AllWithin }
     {
         let stores = Stores::new(alloc);
         let mut agenda = Agenda::new(alloc);
@@ -147,8 +149,9 @@ impl Shard {
         // A member's answer that finds no timer due takes none, nor do some of its other steps.
         ensures takes_none { MemberTakesNone step.now self.old → IsOk result }
 
-        // In every state each span that was taken is counted once.
+        // In every state each span that was taken is counted once, and each member is within its limits.
         ensures counted { AllCounted self.new }
+        ensures within { AllWithin self.new }
     {
         if let Step::Add { tenant, section } = step {
             return add(
@@ -195,8 +198,9 @@ impl Shard {
         ensures stopped { IfErr result (λ stopped.
             IsStopped steps.now self.old stopped.outcomes.items self.new) }
 
-        // In every state each span that was taken is counted once.
+        // In every state each span that was taken is counted once, and each member is within its limits.
         ensures counted { AllCounted self.new }
+        ensures within { AllWithin self.new }
     {
         let alloc = self.alloc;
         let Ok(mut outcomes) = Vec::with_capacity(alloc, steps.len()) else {

@@ -5,7 +5,7 @@ use Rattle.tail_settings.specs.Settings.{settings_view}
 use Rattle.tenant_shard.specs.Lives.{ShardStands}
 use Rattle.tenant_shard.specs.Members.{all_views}
 use Rattle.tenant_shard.specs.Table.{opened}
-use Rattle.tenant_shard.proofs.Gones.{counted_all}
+use Rattle.tenant_shard.proofs.Gones.{counted_all, within_all}
 use Rattle.tenant_shard.proofs.shard.Shard.open_with_keys.Goals as goal
 
 pub loop-tenant-init : goal.loop-tenant-init
@@ -41,6 +41,9 @@ returns-clause-stands c =
 
 pub returns-clause-counted : goal.returns-clause-counted
 returns-clause-counted c = counted_all c.new-stores.result c.loop-tenant.agenda c.loop-tenant.opened.items c.loop-tenant.gone.items c.loop-tenant.invariant.whole.whole
+
+pub returns-clause-within : goal.returns-clause-within
+returns-clause-within c = within_all c.new-stores.result c.loop-tenant.agenda c.loop-tenant.opened.items c.loop-tenant.gone.items c.loop-tenant.invariant.whole.whole
 
 pub loop-tenant-preserved : goal.loop-tenant-preserved
 loop-tenant-preserved c =

@@ -1,7 +1,7 @@
 use Rattle.std.proofs.Common.{◌≡◌, ◌≤◌, length, take, refl, arith}
 use Rattle.std.proofs.lemmas.List.{take_more, take_all}
 use Rattle.tenant_shard.specs.Chain.{ShardDoes, ShardRuns}
-use Rattle.tenant_shard.proofs.Gones.{counted_all}
+use Rattle.tenant_shard.proofs.Gones.{counted_all, within_all}
 use Rattle.tenant_shard.proofs.Wholes.{Chain-push, by_own_steps, stands_after, each_alone, stopped_at_start, stopped_at}
 use Rattle.tenant_shard.proofs.shard.Shard.run.Goals as goal
 
@@ -11,16 +11,23 @@ returns-in_default-clause-stopped c = rw c.new.ensures.items (stopped_at_start c
 pub returns-in_default-clause-counted : goal.returns-in_default-clause-counted
 returns-in_default-clause-counted c = rw (← c.self.view_is) (counted_all c.self.inside.stores c.self.inside.agenda c.self.inside.members.items c.self.inside.gone.items c.self.invariant.whole)
 
+pub returns-in_default-clause-within : goal.returns-in_default-clause-within
+returns-in_default-clause-within c = rw (← c.self.view_is) (within_all c.self.inside.stores c.self.inside.agenda c.self.inside.members.items c.self.inside.gone.items c.self.invariant.whole)
+
 pub loop-step-init : goal.loop-step-init
 loop-step-init c = record {
   runs = rw c.in-Ok.ensures.items refl;
   count = c.in-Ok.ensures.len;
   room = omega (arith, c.in-Ok.ensures.capacity);
   counted = rw (← c.self.view_is) (counted_all c.self.inside.stores c.self.inside.agenda c.self.inside.members.items c.self.inside.gone.items c.self.invariant.whole);
+  within = rw (← c.self.view_is) (within_all c.self.inside.stores c.self.inside.agenda c.self.inside.members.items c.self.inside.gone.items c.self.invariant.whole);
 }
 
 pub returns-clause-counted : goal.returns-clause-counted
 returns-clause-counted c = c.loop-step.invariant.counted
+
+pub returns-clause-within : goal.returns-clause-within
+returns-clause-within c = c.loop-step.invariant.within
 
 pub returns-in_default-step-clause-stopped : goal.returns-in_default-step-clause-stopped
 returns-in_default-step-clause-stopped c =
@@ -37,6 +44,7 @@ loop-step-preserved c =
       count = omega (arith, c.in-Ok-push.ensures.len, c.loop-step.invariant.count);
       room = omega (arith, c.in-Ok-push.ensures.capacity, c.loop-step.invariant.room);
       counted = c.step.ensures.counted;
+      within = c.step.ensures.within;
     }
 
 pub returns-clause-on_success : goal.returns-clause-on_success

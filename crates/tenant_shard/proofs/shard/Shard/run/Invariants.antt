@@ -1,7 +1,7 @@
 use Rattle.std.proofs.Common.{◌≡◌, ◌≤◌, length, take, vec_len}
 use Rattle.std.specs.Prelude.{vec_capacity}
 use Rattle.tenant_shard.specs.Chain.{ShardRuns}
-use Rattle.tenant_shard.specs.Whole.{AllCounted}
+use Rattle.tenant_shard.specs.Whole.{AllCounted, AllWithin}
 use Rattle.tenant_shard.proofs.shard.Shard.run.Given as goal
 
 abbrev pub invariant-loop-step : goal.invariant-loop-step
@@ -10,4 +10,5 @@ invariant-loop-step l = record {
   count : vec_len l.outcomes ≡ l.step-index;
   room : length l.steps ≤ vec_capacity l.outcomes;
   counted : AllCounted l.self;
+  within : AllWithin l.self;
 }

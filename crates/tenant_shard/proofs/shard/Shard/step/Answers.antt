@@ -7,7 +7,7 @@ use Rattle.tenant_shard.specs.Run.{ShardSteps}
 use Rattle.tenant_shard.specs.Follows.{ShardFollows}
 use Rattle.tenant_shard.specs.Steps.{IsComingOf, IsStepOf}
 use Rattle.tenant_shard.proofs.Addressees.{for_pipeline, nobodys_steps, member_steps, member_takes, not_nobodys}
-use Rattle.tenant_shard.proofs.Gones.{counted_all}
+use Rattle.tenant_shard.proofs.Gones.{counted_all, within_all}
 use Rattle.tenant_shard.proofs.Places.{if_ok, on_error}
 use Rattle.tenant_shard.proofs.Runs.{coming_steps, coming_goes_on, newcomer_refused, comes_again, own_goes_on, loss_refuses}
 use Rattle.tenant_shard.proofs.shard.Shard.step.Goals as goal
@@ -62,6 +62,9 @@ returns-in-Add-clause-takes_none c = λ takes. let no : ⊥ = rw c.in-Add.is at 
 
 pub returns-in-Add-clause-counted : goal.returns-in-Add-clause-counted
 returns-in-Add-clause-counted c = counted_all c.self.inside.stores c.add.new.agenda c.add.new.members.items c.add.new.gone.items c.add.ensures.whole.whole
+
+pub returns-in-Add-clause-within : goal.returns-in-Add-clause-within
+returns-in-Add-clause-within c = within_all c.self.inside.stores c.add.new.agenda c.add.new.members.items c.add.new.gone.items c.add.ensures.whole.whole
 
 pub own_step-own-requires : goal.own_step-own-requires
 own_step-own-requires c = record { piped = for_pipeline c.args.step.now c.in_default.not-Add }
@@ -138,6 +141,9 @@ returns-in-Member-clause-takes_none c =
 pub returns-in-Member-clause-counted : goal.returns-in-Member-clause-counted
 returns-in-Member-clause-counted c = counted_all c.step_at.new.stores c.step_at.new.agenda c.step_at.new.members.items c.step_at.new.gone.items c.step_at.ensures.whole.whole
 
+pub returns-in-Member-clause-within : goal.returns-in-Member-clause-within
+returns-in-Member-clause-within c = within_all c.step_at.new.stores c.step_at.new.agenda c.step_at.new.members.items c.step_at.new.gone.items c.step_at.ensures.whole.whole
+
 -- nobody's
 pub returns-in-Nobody-clause-on_success : goal.returns-in-Nobody-clause-on_success
 returns-in-Nobody-clause-on_success c =
@@ -159,3 +165,6 @@ returns-in-Nobody-clause-takes_none c = λ takes. refl
 
 pub returns-in-Nobody-clause-counted : goal.returns-in-Nobody-clause-counted
 returns-in-Nobody-clause-counted c = rw (← c.self.view_is) (counted_all c.self.inside.stores c.self.inside.agenda c.self.inside.members.items c.self.inside.gone.items c.self.invariant.whole)
+
+pub returns-in-Nobody-clause-within : goal.returns-in-Nobody-clause-within
+returns-in-Nobody-clause-within c = rw (← c.self.view_is) (within_all c.self.inside.stores c.self.inside.agenda c.self.inside.members.items c.self.inside.gone.items c.self.invariant.whole)
