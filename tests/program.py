@@ -73,10 +73,24 @@ def usage():
              *(["serve", SETTINGS, option, str(least), "--verbose", option, str(least)] for option, least in LEAST.items()))
     for arguments in wrong:
         check(arguments, ended(arguments), (2, b"", USAGE))
+    usage_is_first()
     status, out, err = ended(["--help"])
     check("--help", (status, err, WAYS in out, out.endswith(b"\n")), (0, b"", True, True))
     status, out, err = ended(["--version"])
     check("--version", (status, err, out.count(b"\n"), out[:16]), (0, b"", 1, b"trace_collector "))
+
+
+def usage_is_first():
+    """Wrong usage is told before the settings are read, also of a token's file without an admin port."""
+    token, port = ["--admin-token-file", "token"], ["--admin", "127.0.0.1:0"]
+    with tempfile.TemporaryDirectory() as folder:
+        missing = str(Path(folder, "missing.toml"))
+        for options in (token, [*token, "--audit"], ["--audit", *token], [*token, "--senders", "1"], ["--senders", "1", *token],
+                        ["--admin-token-file", "--admin"], [*token, *token], [*token, "--admin"], ["--admin"], ["more"]):
+            check(options, ended(["serve", missing, *options]), (2, b"", USAGE))
+        told = f"input or output fault\n{missing}: No such file or directory (os error 2)\n".encode()
+        for options in (port, [*port, *token], [*token, *port], [*token, "--audit", *port]):
+            check(options, ended(["serve", missing, *options]), (1, b"", told))
 
 
 def faults():

@@ -1,7 +1,7 @@
 -- The options of `serve`, a round at a time.
 use Rattle.std.proofs.Common.{◌≡◌, ℕ, suc, ◌-◌, ◌≤◌, ◌<◌, true, false, List, [], ◌∷◌, map, length, length-take, length-drop, get_or, take, take_all, drop, Option, Some, None, String, Global, string_bytes, refl, sym, ap, ◌∙◌, arith}
 use Rattle.std.specs.Option.{option_and_then}
-use Rattle.trace_collector_program.specs.Task.{OptionsData, is_flag, with_flag, with_value, options_from}
+use Rattle.trace_collector_program.specs.Task.{OptionsData, is_flag, with_flag, with_value, is_whole, options_from}
 
 -- the words that texts spell
 abbrev pub spelled : List (String Global) → List (List ℕ)
@@ -41,9 +41,16 @@ pub unvalued : (given : OptionsData) (all behind : List (List ℕ)) (word : List
 unfolding options_from
 unvalued given all behind word front next is = rw (front, next, is) refl
 
-pub ended : (given : OptionsData) (all : List (List ℕ)) → all ≡ [] → options_from given None all ≡ Some given
+-- no word more, behind what is whole or not
+pub ended : (given : OptionsData) (all : List (List ℕ)) → all ≡ [] → is_whole given ≡ true
+    → options_from given None all ≡ Some given
 unfolding options_from
-ended given all none = rw none refl
+ended given all none is = rw (none, is) refl
+
+pub unended : (given : OptionsData) (all : List (List ℕ)) → all ≡ [] → is_whole given ≡ false
+    → options_from given None all ≡ None
+unfolding options_from
+unended given all none is = rw (none, is) refl
 
 -- what becomes of a choice that is known
 pub chosen : (F : OptionsData → Option OptionsData) (choice : Option OptionsData) (more : OptionsData) (from : Option OptionsData)

@@ -82,6 +82,15 @@ pub record Arguments : Type 0 where
         admin = Some (codes "[::1]:9464");
         admin_token_file = Some (codes "token");
       }))
+  pub token_behind_port : served_with (codes "--admin" ∷ codes "[::1]:9464" ∷ codes "--admin-token-file" ∷ codes "token" ∷ [])
+      ≡ Some (serve path (record none_given { admin = Some (codes "[::1]:9464"); admin_token_file = Some (codes "token") }))
+  pub port_alone : served_with (codes "--admin" ∷ codes "[::1]:9464" ∷ [])
+      ≡ Some (serve path (record none_given { admin = Some (codes "[::1]:9464") }))
+  pub token_alone : served_with (codes "--admin-token-file" ∷ codes "token" ∷ []) ≡ None
+  pub token_first : served_with (codes "--admin-token-file" ∷ codes "token" ∷ codes "--audit" ∷ []) ≡ None
+  pub token_last : served_with (codes "--senders" ∷ codes "1" ∷ codes "--admin-token-file" ∷ codes "token" ∷ []) ≡ None
+  -- the port's option is the token's file here
+  pub port_as_token : served_with (codes "--admin-token-file" ∷ codes "--admin" ∷ []) ≡ None
   pub no_value : served_with (codes "--connections" ∷ []) ≡ None
   pub option_as_value : served_with (codes "--connections" ∷ codes "--audit" ∷ []) ≡ None
   pub too_few : map (λ option. served_with (option ∷ codes "0" ∷ [])) numbered ≡ None ∷ None ∷ None ∷ None ∷ None ∷ []

@@ -1,5 +1,5 @@
 -- What the program's arguments ask for. This project's own rule (docs/OPERATING.md).
-use Rattle.std.specs.Prelude.{ℕ, List, [], ◌∷◌, codes, Bool, true, false, ◌&&◌, ◌||◌, not, ◌==◌, nat_le, nat_lt, length, Option, Some, None, option_map, option_and_then, is_none, if◌then◌else◌}
+use Rattle.std.specs.Prelude.{ℕ, List, [], ◌∷◌, codes, Bool, true, false, ◌&&◌, ◌||◌, not, ◌==◌, nat_le, nat_lt, length, Option, Some, None, option_map, option_and_then, is_none, is_some, if◌then◌else◌}
 use Rattle.std.specs.Str.{bytes_eq}
 use Rattle.replay_script.specs.Word.{most_body_bytes, number_of, tested}
 use Rattle.trace_collector_program.specs.declared.task.ServeOptions.{ServeOptions}
@@ -142,10 +142,14 @@ with_value given name value =
     (once given.back_end_timeout (up_to most_millis value))
     else with_bytes given name value
 
--- What is given with all options that these words spell, in any order: first of all the value of the option of this
--- name, where one is awaited.
+-- what is given lacks nothing: a file with a token needs an admin port
+abbrev pub is_whole : OptionsData → Bool
+is_whole given = is_none given.admin_token_file || is_some given.admin
+
+-- What is given with all options that these words spell, in any order, where it is whole: first of all the value of the
+-- option of this name, where one is awaited.
 unfoldable pub options_from : OptionsData → Option (List ℕ) → List (List ℕ) → Option OptionsData
-options_from given None [] = Some given
+options_from given None [] = if is_whole given then Some given else None
 options_from given (Some name) [] = None
 options_from given (Some name) (word ∷ words) =
     option_and_then (λ more. options_from more None words) (with_value given name word)

@@ -60,6 +60,7 @@ where
 {
     let Some(address) = options.admin else {
         return match options.admin_token_file {
+            // `asked_task` gives no such options.
             Some(_) => Err(ProgramFault::Usage),
             None => Ok(None),
         };

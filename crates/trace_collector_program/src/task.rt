@@ -4,7 +4,7 @@ ghost use Rattle.std.specs.Prelude.{◌≡◌, map, option_map, string_bytes, No
 ghost use Rattle.std.specs.Char.{is_ascii_digit};
 ghost use Rattle.std.specs.List.{list_all};
 ghost use Rattle.replay_script.specs.Word.{number_of};
-ghost use Rattle.trace_collector_program.specs.Task.{at_least, is_flag, is_option, none_given, on_file, once, option_of, options_from, options_view, task_of, task_view, up_to, with_bytes, with_flag, with_text, with_value};
+ghost use Rattle.trace_collector_program.specs.Task.{at_least, is_flag, is_option, is_whole, none_given, on_file, once, option_of, options_from, options_view, task_of, task_view, up_to, with_bytes, with_flag, with_text, with_value};
 
 /// What `--help` prints.
 pub const HELP: &str =
@@ -222,7 +222,7 @@ fn option(word: &str) -> Option<Task<'_>>
     }
 }
 
-/// What is given with all options that these words spell, in any order.
+/// What is given with all options that these words spell, in any order, where it is whole.
 fn serve_options<'a>(words: &'a [String]) -> Option<ServeOptions<'a>>
     ensures { option_map options_view result ≡ options_from none_given None
         (map string_bytes words.entry.now) }
@@ -241,7 +241,14 @@ fn serve_options<'a>(words: &'a [String]) -> Option<ServeOptions<'a>>
             left = behind;
         }
     }
-    Some(given)
+    if is_whole(&given) { Some(given) } else { None }
+}
+
+/// Whether what is given lacks nothing: a file with a token needs an admin port.
+fn is_whole(given: &ServeOptions<'_>) -> bool
+    ensures { result ≡ is_whole (options_view given.now) }
+{
+    given.admin_token_file.is_none() || given.admin.is_some()
 }
 
 /// Whether it is an option that has no value.

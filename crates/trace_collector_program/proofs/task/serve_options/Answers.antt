@@ -1,10 +1,17 @@
 use Rattle.std.proofs.Common.{◌≡◌, ℕ, ◌-◌, true, false, List, length, take, drop, Some, None, option_map, String, Global, string_bytes, sym, ap, ◌∙◌, arith}
-use Rattle.trace_collector_program.specs.Task.{is_flag, with_flag, with_value, options_from, options_view}
-use Rattle.trace_collector_program.proofs.Options.{spelled, none_left, front, shorter, flagged, valued, unvalued, ended, chosen, refused}
+use Rattle.trace_collector_program.specs.Task.{is_flag, is_whole, with_flag, with_value, options_from, options_view}
+use Rattle.trace_collector_program.proofs.Options.{spelled, none_left, front, shorter, flagged, valued, unvalued, ended, unended, chosen, refused}
 use Rattle.trace_collector_program.proofs.task.serve_options.Goals as goal
 
-pub returns : goal.returns
-returns c = sym (ended (options_view c.loop-left.given) _ (none_left c.loop-left.left.now c.in_default.len_below)) ∙ c.loop-left.invariant
+pub returns-then-is_whole : goal.returns-then-is_whole
+returns-then-is_whole c =
+    let is : is_whole (options_view c.loop-left.given) ≡ true = sym c.is_whole.ensures ∙ c.if-is_whole.true in
+    sym (ended (options_view c.loop-left.given) _ (none_left c.loop-left.left.now c.in_default.len_below) is) ∙ c.loop-left.invariant
+
+pub returns-else-is_whole : goal.returns-else-is_whole
+returns-else-is_whole c =
+    let is : is_whole (options_view c.loop-left.given) ≡ false = sym c.is_whole.ensures ∙ c.if-is_whole.false in
+    sym (unended (options_view c.loop-left.given) _ (none_left c.loop-left.left.now c.in_default.len_below) is) ∙ c.loop-left.invariant
 
 pub returns-in_err-given : goal.returns-in_err-given
 returns-in_err-given c =
