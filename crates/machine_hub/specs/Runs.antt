@@ -1,5 +1,5 @@
 -- Runs of a state machine, as its log has them. This project's own rule.
-use Rattle.std.specs.Prelude.{◌≡◌, ◌⊎◌, ℕ, ◌+◌, List, [], ◌∷◌, ◌++◌, length, Bool, true, false, Option, Some, None}
+use Rattle.std.specs.Prelude.{◌≡◌, ◌⊎◌, ℕ, ◌+◌, List, [], ◌∷◌, ◌++◌, length, Bool, true, false, Option, Some, None, Result, Ok, Err}
 use Rattle.machine_hub.specs.declared.entry.Entry.{Entry}
 use Rattle.machine_hub.specs.declared.view.Standing.{Standing}
 
@@ -23,47 +23,54 @@ pub record RunsFrom {M S O : Type 0} (steps : M → S → O → M → Type 0)
   pub run : Runs steps start entries middle
   pub now_is : stopped ≡ false → middle ≡ now
 
--- a call was refused memory: nothing happened; or the machine is what want of memory leaves; or the step was made, and
--- nobody was told what it gave
-abbrev pub IsLoss : {M S O : Type 0} → (M → S → O → M → Type 0) → (M → M → Type 0) → M → M → Type 0
-IsLoss {M} {S} {O} steps loses old new =
-    (new ≡ old) ⊎ (loses old new ⊎ ((step : S) × (outcome : O) × steps old step outcome new))
+-- this call was refused memory: nothing happened; or the machine is what want of memory leaves at this call; or a step
+-- that the call asks for was made, and nobody was told what it gave
+abbrev pub IsLossOf : {M S O C : Type 0} → (C → S → Type 0) → (M → S → O → M → Type 0) → (C → M → M → Type 0) →
+    C → M → M → Type 0
+IsLossOf {M} {S} {O} asks steps loses call old new =
+    (new ≡ old) ⊎ (loses call old new ⊎ ((step : S) × (outcome : O) × asks call step × steps old step outcome new))
 
--- what happened leads a machine from one state to another: steps that gave their outcomes, and, where there is none,
--- calls that were refused memory
-abbrev pub RunsWithLosses : {M S O : Type 0} → (M → S → O → M → Type 0) → (M → M → Type 0) →
-    M → List (Option (Entry S O)) → M → Type 0
-RunsWithLosses steps loses start [] end = start ≡ end
-RunsWithLosses {M} steps loses start (None ∷ hs) end =
-    (next : M) × IsLoss steps loses start next × RunsWithLosses steps loses next hs end
-RunsWithLosses {M} steps loses start (Some e ∷ hs) end =
-    (next : M) × steps start e.step e.outcome next × RunsWithLosses steps loses next hs end
+-- what happened leads a machine from one state to another: steps that gave their outcomes, and calls that were refused
+-- memory, each of which left what such a call may leave
+abbrev pub RunsWithLosses : {M S O C : Type 0} → (C → S → Type 0) → (M → S → O → M → Type 0) →
+    (C → M → M → Type 0) → M → List (Result (Entry S O) C) → M → Type 0
+RunsWithLosses asks steps loses start [] end = start ≡ end
+RunsWithLosses {M} asks steps loses start (Err call ∷ hs) end =
+    (next : M) × IsLossOf asks steps loses call start next × RunsWithLosses asks steps loses next hs end
+RunsWithLosses {M} asks steps loses start (Ok e ∷ hs) end =
+    (next : M) × steps start e.step e.outcome next × RunsWithLosses asks steps loses next hs end
 
 -- the entries of the steps in it
-abbrev pub entries_in : {E : Type 0} → List (Option E) → List E
+abbrev pub entries_in : {E C : Type 0} → List (Result E C) → List E
 entries_in [] = []
-entries_in (None ∷ hs) = entries_in hs
-entries_in (Some e ∷ hs) = e ∷ entries_in hs
+entries_in (Err call ∷ hs) = entries_in hs
+entries_in (Ok e ∷ hs) = e ∷ entries_in hs
 
--- how many calls in it were refused memory
-abbrev pub losses : {E : Type 0} → List (Option E) → ℕ
+-- the calls in it that were refused memory
+abbrev pub lost_in : {E C : Type 0} → List (Result E C) → List C
+lost_in [] = []
+lost_in (Err call ∷ hs) = call ∷ lost_in hs
+lost_in (Ok e ∷ hs) = lost_in hs
+
+-- how many these are
+abbrev pub losses : {E C : Type 0} → List (Result E C) → ℕ
 losses [] = 0
-losses (None ∷ hs) = losses hs + 1
-losses (Some e ∷ hs) = losses hs
+losses (Err call ∷ hs) = losses hs + 1
+losses (Ok e ∷ hs) = losses hs
 
 -- what a machine did from its start: a run, which are these entries, until memory was refused, and what happened later
-pub record IsHistory {M S O : Type 0} (steps : M → S → O → M → Type 0) (loses : M → M → Type 0)
-    (start : M) (entries : List (Entry S O)) (later : List (Option (Entry S O))) (stopped : Bool) (now : M)
-    : Type 0 where
+pub record IsHistory {M S O C : Type 0} (asks : C → S → Type 0) (steps : M → S → O → M → Type 0)
+    (loses : C → M → M → Type 0) (start : M) (entries : List (Entry S O)) (later : List (Result (Entry S O) C))
+    (stopped : Bool) (now : M) : Type 0 where
   pub middle : M
   pub run : Runs steps start entries middle
-  pub later_run : RunsWithLosses steps loses middle later now
+  pub later_run : RunsWithLosses asks steps loses middle later now
   pub clean : stopped ≡ false → later ≡ []
 
 -- what a step leaves in the log, and what is given of it: its entry, which is the last, with its position; or none,
 -- where the log keeps nothing or was stopped before
-abbrev pub IsLogged : {M S O : Type 0} →
-    Standing M S O → Standing M S O → Entry S O → Option (ℕ × Entry S O) → Type 0
+abbrev pub IsLogged : {M S O C : Type 0} →
+    Standing M S O C → Standing M S O C → Entry S O → Option (ℕ × Entry S O) → Type 0
 IsLogged old new e None =
     (new.entries ≡ old.entries) × (new.stopped ≡ old.stopped) × (old.keeps ≡ true → old.stopped ≡ true)
 IsLogged old new e (Some given) =
@@ -72,7 +79,7 @@ IsLogged old new e (Some given) =
 
 -- a call made one step, which it asked for, and the log has it where it keeps
 abbrev pub IsMade : {C M S O : Type 0} → (C → S → Type 0) → (M → S → O → M → Type 0) →
-    C → Standing M S O → Standing M S O → O → Option (ℕ × Entry S O) → Type 0
+    C → Standing M S O C → Standing M S O C → O → Option (ℕ × Entry S O) → Type 0
 IsMade {C} {M} {S} asks steps call old new outcome given =
     (step : S) × asks call step × steps old.machine step outcome new.machine
     × (new.last ≡ Some (entry step outcome)) × IsLogged old new (entry step outcome) given

@@ -19,7 +19,7 @@ impl<M: Machine, L: StepLog<M>> Model for Caller<M, L> {
     ghost use Rattle.std.specs.Prelude.{List};
     ghost use Rattle.machine_hub.specs.Seats.{SeatState};
 
-    ghost Value = { List (SeatState M M.Step M.Outcome) };
+    ghost Value = { List (SeatState M M.Step M.Outcome M.Call) };
 
     ghost view = { λ s. s.seats.items };
 }

@@ -1,7 +1,7 @@
 //! The hub.
 
 ghost use Rattle.std.specs.Prelude.{◌≡◌, ◌≢◌, ◌<◌, ◌≤◌, [], length, IfOk, IfErr, OnErr, option_map, replicate, vec_len, vec_capacity};
-ghost use Rattle.machine_hub.specs.Hub.{keeping, receipt_at, AreNew, homes_of, slots_of, AreCallersOf, new_caller, EachRises, IsRefusedOn, IsCallOn, IsToldOn, AreShardRuns, AreShardHistories};
+ghost use Rattle.machine_hub.specs.Hub.{keeping, receipt_at, AreNew, homes_of, slots_of, AreCallersOf, new_caller, EachRises, IsRefusedOn, IsCallOn, IsRefusalOn, IsToldOn, AreShardRuns, AreShardHistories};
 ghost use Rattle.machine_hub.specs.Keepers.{keeper_slots, AreRoomy, AreFull, taken_in, AreWholeRuns};
 
 use crate::caller::Caller;
@@ -96,6 +96,7 @@ impl<M: Machine, L: StepLog<M>> Hub<M, L> {
         ensures call { IfOk result (λ r. IsCallOn M.asks M.steps M.loses me.old me.new shard call
             r.0 r.1) }
         ensures on_refusal { OnErr result (IsRefusedOn me.old me.new shard) }
+        ensures lost { OnErr result (IsRefusalOn M.asks M.steps M.loses me.old me.new shard call) }
     {
         let seat = &mut me.seats[shard];
         let (outcome, given) = self.shards[shard].step(rt, alloc, seat, call)?;
@@ -113,7 +114,7 @@ impl<M: Machine, L: StepLog<M>> Hub<M, L> {
     ) -> Told<M::Reading>
         requires shard { shard < length self.now }
         requires same_hub { slots_of me.old ≡ self.now }
-        ensures answer { IsToldOn M.steps M.loses M.reads me.old shard question.now result }
+        ensures answer { IsToldOn M.asks M.steps M.loses M.reads me.old shard question.now result }
         ensures same { me.new ≡ me.old }
     {
         let seat = &mut me.seats[shard];
@@ -134,7 +135,7 @@ impl<M: Machine, L: StepLog<M>> Hub<M, L> {
         ensures runs { IfOk result (λ shards. AreShardRuns M.steps keeper.homes callers.items
             shards.items) }
         ensures histories { IfOk result (λ shards.
-            AreShardHistories M.steps M.loses keeper.homes callers.items shards.items) }
+            AreShardHistories M.asks M.steps M.loses keeper.homes callers.items shards.items) }
         ensures missing { IfErr result (λ back. (vec_len callers ≢ keeper.callers)
             × (back.hub ≡ self)
             × (back.keeper ≡ keeper) × (back.callers ≡ callers)) }
@@ -197,7 +198,7 @@ fn finish_all<M: Machine, L: StepLog<M>, R: Wait>(
     requires keepers { keeper_slots keepers.items ≡ shards.items }
     requires all { AreFull keepers.items }
     requires room { (room.items ≡ []) × (vec_len keepers ≤ vec_capacity room) }
-    ensures { AreWholeRuns M.steps M.loses keepers.items result.items }
+    ensures { AreWholeRuns M.asks M.steps M.loses keepers.items result.items }
 {
     while let Some(slot) = shards.pop() {
         let Some(keeper) = keepers.pop() else {

@@ -2,7 +2,7 @@
 
 ghost use Rattle.std.specs.Prelude.{◌≡◌, ◌+◌, ◌^◌, ◌<◌, ◌++◌, ◌∷◌, [], length, true, false, Some, IfOk, OnOk, OnErr, option_map};
 ghost use Rattle.std.specs.Arc.{arc_value};
-ghost use Rattle.machine_hub.specs.Runs.{entry, IsLoss, IsLogged, IsMade};
+ghost use Rattle.machine_hub.specs.Runs.{entry, IsLossOf, IsLogged, IsMade};
 
 use crate::entry::{Entry, EntryOf};
 use crate::log::StepLog;
@@ -25,14 +25,15 @@ pub struct LoggedMachine<M: Machine, L: StepLog<M>> {
     // How many entries the log has.
     made: u64,
     stopped: bool,
-    // What contracts know of the last step that was made.
+    // What contracts know of the last step that was made, and of the last call that came.
     last: Remembered<Option<(M::Step, M::Outcome)>>,
+    asked: Remembered<Option<M::Call>>,
 }
 
 impl<M: Machine, L: StepLog<M>> Model for LoggedMachine<M, L> {
     ghost use Rattle.machine_hub.specs.declared.view.Standing.{Standing};
 
-    ghost Value = { Standing M M.Step M.Outcome };
+    ghost Value = { Standing M M.Step M.Outcome M.Call };
 
     ghost use Rattle.std.specs.Prelude.{◌≡◌, [], length, option_map};
     ghost use Rattle.machine_hub.specs.Runs.{entry};
@@ -45,6 +46,7 @@ impl<M: Machine, L: StepLog<M>> Model for LoggedMachine<M, L> {
       stopped = s.stopped;
       last = option_map (λ l. entry l.0 l.1) s.last.value;
       later = [];
+      asked = s.asked.value;
     } };
 
     ghost invariant = { λ s. s.made ≡ length (L.entries s.log) };
@@ -64,6 +66,7 @@ impl<M: Machine, L: StepLog<M>> LoggedMachine<M, L> {
             made: 0,
             stopped: false,
             last: Remembered::of(&None),
+            asked: Remembered::of(&None),
         }
     }
 
@@ -79,9 +82,12 @@ impl<M: Machine, L: StepLog<M>> LoggedMachine<M, L> {
             (option_map (λ given. (given.0, arc_value given.1)) r.1)) }
         ensures on_refusal { OnErr result
             ((self.new.entries ≡ self.old.entries) × (self.new.stopped ≡ true)) }
-        ensures lost { OnErr result (IsLoss M.steps M.loses self.old.machine self.new.machine) }
+        ensures lost { OnErr result (IsLossOf M.asks M.steps M.loses call self.old.machine
+            self.new.machine) }
+        ensures asked { self.new.asked ≡ Some call }
         ensures same { (self.new.number ≡ self.old.number) × (self.new.keeps ≡ self.old.keeps) }
     {
+        let call = self.remember(call);
         self.make_room(alloc)?;
         match self.machine.make(alloc, call) {
             Ok(made) => self.log_made(alloc, made),
@@ -92,6 +98,22 @@ impl<M: Machine, L: StepLog<M>> LoggedMachine<M, L> {
         }
     }
 
+    /// Remembers a call that comes.
+    fn remember(&mut self, call: M::Call) -> M::Call
+        ensures call { result ≡ call }
+        ensures asked { self.new.asked ≡ Some call }
+        ensures same { (self.new.machine ≡ self.old.machine)
+            × (self.new.entries ≡ self.old.entries) × (self.new.stopped ≡ self.old.stopped)
+            × (self.new.number ≡ self.old.number) × (self.new.keeps ≡ self.old.keeps) }
+    {
+        let asked = Some(call);
+        self.asked = Remembered::of(&asked);
+        let Some(call) = asked else {
+            unreachable!()
+        };
+        call
+    }
+
     /// Makes room for one entry more, unless the log is stopped. Where memory is refused it is stopped.
     fn make_room(&mut self, alloc: Global) -> Result<(), AllocError>
         ensures room { OnOk result ((self.new.stopped ≡ false)
@@ -99,7 +121,7 @@ impl<M: Machine, L: StepLog<M>> LoggedMachine<M, L> {
         ensures stays { OnOk result (self.new.stopped ≡ self.old.stopped) }
         ensures on_refusal { OnErr result (self.new.stopped ≡ true) }
         ensures same { (self.new.machine ≡ self.old.machine)
-            × (self.new.entries ≡ self.old.entries)
+            × (self.new.entries ≡ self.old.entries) × (self.new.asked ≡ self.old.asked)
             × (self.new.number ≡ self.old.number) × (self.new.keeps ≡ self.old.keeps) }
     {
         if self.stopped {
@@ -123,7 +145,7 @@ impl<M: Machine, L: StepLog<M>> LoggedMachine<M, L> {
             (option_map (λ given. (given.0, arc_value given.1)) r.1)) }
         ensures on_refusal { OnErr result
             ((self.new.entries ≡ self.old.entries) × (self.new.stopped ≡ true)) }
-        ensures same { (self.new.machine ≡ self.old.machine)
+        ensures same { (self.new.machine ≡ self.old.machine) × (self.new.asked ≡ self.old.asked)
             × (self.new.number ≡ self.old.number) × (self.new.keeps ≡ self.old.keeps) }
     {
         let made = Some(made);
@@ -158,7 +180,7 @@ impl<M: Machine, L: StepLog<M>> LoggedMachine<M, L> {
             self.new.entries ≡ self.old.entries ++ entry step outcome.now ∷ []) }
         ensures on_refusal { OnErr result (self.new.entries ≡ self.old.entries) }
         ensures stays { (self.new.stopped ≡ self.old.stopped) × (self.new.last ≡ self.old.last) }
-        ensures same { (self.new.machine ≡ self.old.machine)
+        ensures same { (self.new.machine ≡ self.old.machine) × (self.new.asked ≡ self.old.asked)
             × (self.new.number ≡ self.old.number) × (self.new.keeps ≡ self.old.keeps) }
     {
         let outcome = M::copied(outcome)?;
@@ -207,6 +229,7 @@ impl<M: Machine, L: StepLog<M>> LoggedMachine<M, L> {
             made: _,
             stopped: _,
             last: _,
+            asked: _,
         } = self;
         (machine, log)
     }

@@ -30,8 +30,8 @@ pub trait Machine: Drop + Send {
     // the step leads from one state to another, and gives that outcome
     ghost steps: { Self → Self.Step → Self.Outcome → Self → Type 0 };
 
-    // want of memory may leave a state so
-    ghost loses: { Self → Self → Type 0 };
+    // want of memory at a call may leave a state so
+    ghost loses: { Self.Call → Self → Self → Type 0 };
 
     // a question may be told this in a state
     ghost reads: { Self → Self.Question → Self.Reading → Type 0 };
@@ -44,7 +44,7 @@ pub trait Machine: Drop + Send {
     ) -> Result<(Self::Step, Self::Outcome), AllocError>
         ensures asked { IfOk result (λ made. asks call made.0) }
         ensures made { IfOk result (λ made. steps self.old made.0 made.1 self.new) }
-        ensures lost { OnErr result (loses self.old self.new) };
+        ensures lost { OnErr result (loses call self.old self.new) };
 
     /// What the question is told. It changes nothing.
     fn tell(&self, question: &Self::Question) -> Self::Reading

@@ -7,7 +7,8 @@ use crate::view::SlotView;
 use crossbeam_queue::protocol::{Join, Lesson, Outcome, Protocol, Split};
 
 /// What a slot's pass knows.
-pub type ViewOf<M> = SlotView<M, <M as Machine>::Step, <M as Machine>::Outcome>;
+pub type ViewOf<M> =
+    SlotView<M, <M as Machine>::Step, <M as Machine>::Outcome, <M as Machine>::Call>;
 
 /// One at a time has the machine.
 pub struct OneAtATime;
@@ -15,7 +16,7 @@ pub struct OneAtATime;
 impl<M: Machine, L: StepLog<M>> Protocol<LoggedMachine<M, L>, ViewOf<M>> for OneAtATime {
     ghost use Rattle.machine_hub.specs.Slot.{IsSlot, maker};
 
-    ghost holds = { IsSlot M.steps M.loses };
+    ghost holds = { IsSlot M.asks M.steps M.loses };
 
     ghost first = { maker M.nowhere };
 }
@@ -60,7 +61,7 @@ pub struct Takes;
 impl<M: Machine, L: StepLog<M>> Outcome<LoggedMachine<M, L>, ViewOf<M>> for Takes {
     ghost use Rattle.machine_hub.specs.Slot.{Taken};
 
-    ghost then = { Taken M.steps M.loses };
+    ghost then = { Taken M.asks M.steps M.loses };
 }
 
 impl<M: Machine, L: StepLog<M>> Lesson<LoggedMachine<M, L>, ViewOf<M>> for Takes {

@@ -5,7 +5,7 @@ ghost use Rattle.std.specs.Arc.{arc_value};
 ghost use Rattle.crossbeam_queue.specs.Passes.{view as known, IsPassOf, IsSamePass, ruled_capacity};
 ghost use Rattle.log_positions.specs.Numbered.{AreRising};
 ghost use Rattle.machine_hub.specs.Slot.{seat_view, home_of, Taken, Stepped, Stopped, Returned, IsSteppedBy, IsStoppedBy, IsReturnedBy};
-ghost use Rattle.machine_hub.specs.Seats.{new_seat, new_keeper, keeper_with, seat_refused, IsStepOf, WasTold, IsWholeRun, with_seat};
+ghost use Rattle.machine_hub.specs.Seats.{new_seat, new_keeper, keeper_with, IsStepOf, IsRefusalOf, WasTold, IsWholeRun, with_seat};
 
 use crate::log::StepLog;
 use crate::logged::{Given, LoggedMachine};
@@ -23,7 +23,7 @@ type Cell<M, L> = RuledArrayQueue<LoggedMachine<M, L>, ViewOf<M>, OneAtATime>;
 type Token<M, L> = Pass<LoggedMachine<M, L>, ViewOf<M>>;
 
 /// A place at a slot, for one thread at a time. Contracts see it as its slot, its machine's home, the entries of its
-/// calls, and how many came after memory was refused and how many were refused memory; none of that is stored.
+/// calls, how many came after memory was refused, and which were refused memory; none of that is stored.
 #[derive(Drop)]
 pub struct SlotSeat<M: Machine, L: StepLog<M>> {
     pass: Token<M, L>,
@@ -32,7 +32,7 @@ pub struct SlotSeat<M: Machine, L: StepLog<M>> {
 impl<M: Machine, L: StepLog<M>> Model for SlotSeat<M, L> {
     ghost use Rattle.machine_hub.specs.Seats.{SeatState};
 
-    ghost Value = { SeatState M M.Step M.Outcome };
+    ghost Value = { SeatState M M.Step M.Outcome M.Call };
 
     ghost use Rattle.std.specs.Prelude.{◌≡◌, [], None};
     ghost use Rattle.crossbeam_queue.specs.Passes.{view as known};
@@ -45,6 +45,7 @@ impl<M: Machine, L: StepLog<M>> Model for SlotSeat<M, L> {
       late = (known s.pass).late;
       bare = (known s.pass).bare;
       refused = (known s.pass).refused;
+      lost = (known s.pass).lost;
     } };
 
     ghost invariant = { λ s. (s.pass.me.1 ≡ []) × ((known s.pass).parts ≡ 1) × ((known s.pass).held ≡ None)
@@ -84,7 +85,7 @@ pub struct SlotKeeper<M: Machine, L: StepLog<M>> {
 impl<M: Machine, L: StepLog<M>> Model for SlotKeeper<M, L> {
     ghost use Rattle.machine_hub.specs.Seats.{KeeperState};
 
-    ghost Value = { KeeperState M M.Step M.Outcome };
+    ghost Value = { KeeperState M M.Step M.Outcome M.Call };
 
     ghost use Rattle.std.specs.Prelude.{◌≡◌, ◌≤◌, ◌+◌, ◌-◌, [], None};
     ghost use Rattle.crossbeam_queue.specs.Passes.{view as known};
@@ -99,6 +100,7 @@ impl<M: Machine, L: StepLog<M>> Model for SlotKeeper<M, L> {
       late = (known s.root).late;
       bare = (known s.root).bare;
       refused = (known s.root).refused;
+      lost = (known s.root).lost;
     } };
 
     ghost invariant = { λ s. (s.root.me.1 ≡ []) × (s.taken ≤ s.seats)
@@ -108,7 +110,7 @@ impl<M: Machine, L: StepLog<M>> Model for SlotKeeper<M, L> {
 impl<M: Machine, L: StepLog<M>> SlotSeat<M, L> {
     fn new(pass: Token<M, L>) -> SlotSeat<M, L>
         requires pass { pass.me.1 ≡ [] }
-        requires fresh { known pass ≡ seat_view 1 (known pass).home None [] [] 0 0 }
+        requires fresh { known pass ≡ seat_view 1 (known pass).home None [] [] 0 0 [] }
         ensures { result ≡ new_seat pass.table_id (known pass).home }
     {
         SlotSeat { pass }
@@ -162,7 +164,8 @@ impl<M: Machine, L: StepLog<M>> Slot<M, L> {
         requires { me.old.slot ≡ self.now }
         ensures made { IfOk result (λ r. IsStepOf M.asks M.steps M.loses me.old me.new call r.0
             (option_map (λ given. (given.0, arc_value given.1)) r.1)) }
-        ensures on_refusal { OnErr result (me.new ≡ seat_refused me.old) }
+        ensures on_refusal { OnErr result (IsRefusalOf M.asks M.steps M.loses me.old me.new
+            call) }
     {
         let _guard = self.gate.lock(rt);
         let mut machine = take(rt, &self.cell, &mut me.pass);
@@ -186,7 +189,7 @@ impl<M: Machine, L: StepLog<M>> Slot<M, L> {
         question: &M::Question,
     ) -> Told<M::Reading>
         requires { me.old.slot ≡ self.now }
-        ensures answer { WasTold M.steps M.loses M.reads me.old question.now result }
+        ensures answer { WasTold M.asks M.steps M.loses M.reads me.old question.now result }
         ensures same { me.new ≡ me.old }
     {
         let _guard = self.gate.lock(rt);
@@ -218,7 +221,7 @@ impl<M: Machine, L: StepLog<M>> SlotKeeper<M, L> {
     pub fn finish<R: Wait>(self, rt: &R, slot: Slot<M, L>) -> LoggedMachine<M, L>
         requires slot { self.slot ≡ slot }
         requires all { self.taken ≡ self.seats }
-        ensures { IsWholeRun M.steps M.loses self result }
+        ensures { IsWholeRun M.asks M.steps M.loses self result }
     {
         let Slot { gate: _, cell } = slot;
         let SlotKeeper {
@@ -242,7 +245,7 @@ fn take<M: Machine, L: StepLog<M>, R: Wait>(
     requires pass { IsPassOf cell.now pass.old }
     requires free { (0 < (known pass.old).parts) × ((known pass.old).held ≡ None) }
     ensures { IsSamePass pass.old pass.new
-        × Taken M.steps M.loses (known pass.old) result (known pass.new) }
+        × Taken M.asks M.steps M.loses (known pass.old) result (known pass.new) }
 {
     for _ in rt.forever() {
         if let Some(machine) = cell.pop_as::<Takes, R>(rt, pass) {
@@ -275,7 +278,7 @@ fn put_stopped<M: Machine, L: StepLog<M>, R: Wait>(
     machine: LoggedMachine<M, L>,
 )
     requires pass { IsPassOf cell.now pass.old × (ruled_capacity cell.now ≡ 1) }
-    requires machine { IsStoppedBy M.steps M.loses (known pass.old) machine }
+    requires machine { IsStoppedBy M.asks M.steps M.loses (known pass.old) machine }
     ensures { IsSamePass pass.old pass.new × Stopped (known pass.old) machine (known pass.new) }
 {
     let Ok(()) = cell.push_as::<Stops, R>(rt, pass, machine) else {

@@ -66,14 +66,10 @@ IsKeptOut step old new = IsNewcomers step × (new ≡ old)
 abbrev pub StepIsRefused : Step → List View → List View → Type 0
 StepIsRefused step old new = ShardRefuses step old new ⊎ IsKeptOut step old new
 
--- a call was refused memory: its step had its word, which stays drawn, and left the shard as one that is refused does;
--- no generator has come or gone
+-- this call was refused memory: its step had its word, which stays drawn, and left the shard as one that is refused
+-- does; no generator has come or gone
 pub record IsLost (call : Call) (old new : MachineState) : Type 0 where
   pub made : LoggedStep
   pub asked : AsksFor call made
   pub shard : StepIsRefused made.step old.views new.views
   pub words : IsReady made.word made.step old.words new.words
-
--- some call was refused memory and left that
-abbrev pub IsLostBySome : MachineState → MachineState → Type 0
-IsLostBySome old new = (call : Call) × IsLost call old new

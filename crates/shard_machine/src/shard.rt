@@ -61,7 +61,7 @@ impl Machine for ShardMachine {
     ghost use Rattle.std.specs.Prelude.{[]};
     ghost use Rattle.tenant_shard.specs.Waiting.{IsWaiting};
     ghost use Rattle.shard_machine.specs.MachineState.{AsksFor, MachineDoes};
-    ghost use Rattle.shard_machine.specs.Drawing.{IsLost, IsLostBySome};
+    ghost use Rattle.shard_machine.specs.Drawing.{IsLost};
 
     type Call = Call;
 
@@ -79,15 +79,14 @@ impl Machine for ShardMachine {
 
     ghost steps = { MachineDoes };
 
-    ghost loses = { IsLostBySome };
+    ghost loses = { IsLost };
 
     ghost reads = { λ s tenant waiting. IsWaiting s.views tenant waiting };
 
     fn make(&mut self, _alloc: Global, call: Call) -> Result<(LoggedStep, Outcome), AllocError>
         ensures asked { IfOk result (λ made. AsksFor call made.0) }
         ensures made { IfOk result (λ made. MachineDoes self.old made.0 made.1 self.new) }
-        ensures on_refusal { OnErr result (IsLost call self.old self.new) }
-        ensures lost { OnErr result (IsLostBySome self.old self.new) }
+        ensures lost { OnErr result (IsLost call self.old self.new) }
     {
         let made = ready(&mut self.words, call);
         let newly = seed_newcomer(&mut self.words, &made.step)?;

@@ -10,18 +10,19 @@ use Rattle.tenant_shard.specs.Alone.{OwnStepsDecide}
 use Rattle.tenant_shard.specs.Table.{section_of, opened, members_of}
 use Rattle.tenant_shard.proofs.Wholes.{by_own_steps, stands_after, each_alone}
 use Rattle.machine_hub.specs.declared.view.Home.{Home}
-use Rattle.machine_hub.specs.Runs.{entry, Runs, IsHistory}
-use Rattle.machine_hub.proofs.Kept.{runs_push, history_logged, history_late}
+use Rattle.machine_hub.specs.Runs.{entry, Runs, IsLossOf, IsHistory}
+use Rattle.machine_hub.proofs.Kept.{runs_push, history_logged, history_late, history_loss}
 use Rattle.machine_hub.proofs.Ended.{found, shard_run}
 use Rattle.machine_hub.specs.Slot.{stored, with_history}
-use Rattle.machine_hub.specs.Seats.{seat_after, IsNoted}
+use Rattle.machine_hub.specs.Seats.{seat_after, IsNoted, IsNotedLost}
 use Rattle.machine_hub.specs.Hub.{AreShardRuns, AreShardHistories}
-use Rattle.shard_machine.specs.MachineState.{MachineState, MachineDoes, started}
+use Rattle.shard_machine.specs.declared.step.Call.{Call}
+use Rattle.shard_machine.specs.MachineState.{MachineState, AsksFor, MachineDoes, started}
 use Rattle.shard_machine.specs.Run.{Logged, steps_of, outcomes_of, drawn_for, section_in, AreFirstWords, RunsAreShardRuns, WordsAreInOrder}
 use Rattle.shared_hub.specs.Shards.{IsFresh, AreOpened}
-use Rattle.shared_hub.specs.Logs.{Seat, CallerState, LoggedShard, waits, IsLogOf, EachCallEndsARun, EachLookSeesARun, AreLogged, AreOneRun, IsHistoryOf, AreOneHistory, EachCallEndsAHistory, EachLookSeesAHistory, LogsTellByOwnSteps}
-use Rattle.shard_machine.specs.Drawing.{IsLostBySome}
-use Rattle.shared_hub.proofs.Sparing.{IsAlone, spares, behind, run_and_later, entries_behind, losses_behind}
+use Rattle.shared_hub.specs.Logs.{Seat, CallerState, LoggedShard, waits, IsLogOf, EachCallEndsARun, EachLookSeesARun, AreLogged, AreOneRun, AreCosts, IsHistoryOf, AreOneHistory, EachCallEndsAHistory, EachRefusalEndsAHistory, EachLookSeesAHistory, LogsTellByOwnSteps}
+use Rattle.shard_machine.specs.Drawing.{IsLost}
+use Rattle.shared_hub.proofs.Sparing.{IsAlone, spares, behind, run_and_later, entries_behind, lost_behind, losses_behind}
 
 either : (first later : Option SectionData) → option_or (started first) (started later) ≡ started (option_or first later)
 either None later = refl
@@ -72,7 +73,7 @@ are_one_run shard_runs in_order table homes callers shards runs opens shard with
       each = run.each;
     }
 
-history_of : (table : SettingsData) (members : List ℕ) (first : MachineState) (s : LoggedShard) → IsFresh table members first → IsHistory MachineDoes IsLostBySome first s.entries s.later s.stopped s.machine → IsHistoryOf table members s
+history_of : (table : SettingsData) (members : List ℕ) (first : MachineState) (s : LoggedShard) → IsFresh table members first → IsHistory AsksFor MachineDoes IsLost first s.entries s.later s.stopped s.machine → IsHistoryOf table members s
 history_of table members first s fresh did =
     let spared = spares (behind s.entries s.later) first s.machine (run_and_later s.entries s.later first did.middle s.machine did.run did.later_run) in
     record {
@@ -80,12 +81,13 @@ history_of table members first s fresh did =
       fresh = fresh;
       history = did;
       hit = spared.hit;
+      costs = subst (λ calls. AreCosts calls spared.hit) (lost_behind s.entries s.later) spared.costs;
       few = omega (arith, spared.few, losses_behind s.entries s.later);
       each_alone = λ tenant apart.
           subst (IsAlone tenant (opened table members tenant)) (entries_behind s.entries s.later) (spared.alone_is (opened table members) fresh.stands tenant refl apart);
     }
 
-pub are_one_history : (table : SettingsData) (homes : List (Home MachineState)) (callers : List CallerState) (shards : List LoggedShard) → AreShardRuns MachineDoes homes callers shards → AreShardHistories MachineDoes IsLostBySome homes callers shards
+pub are_one_history : (table : SettingsData) (homes : List (Home MachineState)) (callers : List CallerState) (shards : List LoggedShard) → AreShardRuns MachineDoes homes callers shards → AreShardHistories AsksFor MachineDoes IsLost homes callers shards
     → AreOpened table homes → AreOneHistory table callers shards
 are_one_history table homes callers shards runs histories opens shard s at =
     let here = shard_run MachineDoes homes callers shards runs shard s at in
@@ -96,6 +98,7 @@ are_one_history table homes callers shards runs histories opens shard s at =
       log = history_of table (members_of table shard) here.0.start (with_history did.entries did.later s) (opens.each shard here.0 here.1).1 did.history;
       each = did.each;
       each_late = did.late;
+      each_lost = did.lost;
       count = did.count;
     }
 
@@ -146,22 +149,36 @@ sees_a_run shard_runs in_order table members caller shard tenant told look fresh
     }
 
 -- the machine's history with a call's step behind it
-made_behind : (first : MachineState) (old new : LoggedShard) (e : Logged) (late : Bool) (noted : ℕ × Logged) → IsHistory MachineDoes IsLostBySome first old.entries old.later old.stopped old.machine
-    → MachineDoes old.machine e.step e.outcome new.machine → IsNoted old new e late noted → IsHistory MachineDoes IsLostBySome first new.entries new.later new.stopped new.machine
+made_behind : (first : MachineState) (old new : LoggedShard) (e : Logged) (late : Bool) (noted : ℕ × Logged) → IsHistory AsksFor MachineDoes IsLost first old.entries old.later old.stopped old.machine
+    → MachineDoes old.machine e.step e.outcome new.machine → IsNoted old new e late noted → IsHistory AsksFor MachineDoes IsLost first new.entries new.later new.stopped new.machine
 made_behind first old new e true noted did step adds =
-    let longer = history_late MachineDoes IsLostBySome first old.entries old.later e old.stopped new.stopped old.machine new.machine did adds.4 step in
-    subst (λ es. IsHistory MachineDoes IsLostBySome first es new.later new.stopped new.machine) (sym adds.1)
-    (subst (λ hs. IsHistory MachineDoes IsLostBySome first old.entries hs new.stopped new.machine) (sym adds.2) longer)
+    let longer = history_late AsksFor MachineDoes IsLost first old.entries old.later e old.stopped new.stopped old.machine new.machine did adds.4 step in
+    subst (λ es. IsHistory AsksFor MachineDoes IsLost first es new.later new.stopped new.machine) (sym adds.1)
+    (subst (λ hs. IsHistory AsksFor MachineDoes IsLost first old.entries hs new.stopped new.machine) (sym adds.2) longer)
 made_behind first old new e false noted did step adds =
-    let longer = history_logged MachineDoes IsLostBySome first old.entries old.later e old.stopped new.stopped old.machine new.machine did adds.3 step in
-    subst (λ es. IsHistory MachineDoes IsLostBySome first es new.later new.stopped new.machine) (sym adds.1)
-    (subst (λ hs. IsHistory MachineDoes IsLostBySome first (old.entries ++ e ∷ []) hs new.stopped new.machine) (sym adds.2) longer)
+    let longer = history_logged AsksFor MachineDoes IsLost first old.entries old.later e old.stopped new.stopped old.machine new.machine did adds.3 step in
+    subst (λ es. IsHistory AsksFor MachineDoes IsLost first es new.later new.stopped new.machine) (sym adds.1)
+    (subst (λ hs. IsHistory AsksFor MachineDoes IsLost first (old.entries ++ e ∷ []) hs new.stopped new.machine) (sym adds.2) longer)
 
 pub ends_a_history : EachCallEndsAHistory
 ends_a_history table members old new shard call outcome receipt made fresh =
     let one = made.made in
     let start = made.seat.home.start in
     history_of table members start one.new fresh (made_behind start one.old one.new (entry one.step outcome) made.late made.noted one.before.history one.made one.adds)
+
+-- the machine's history with a call behind it that was refused memory
+lost_behind_it : (first : MachineState) (old new : LoggedShard) (call : Call) (noted : ℕ × Call) → IsHistory AsksFor MachineDoes IsLost first old.entries old.later old.stopped old.machine
+    → IsLossOf AsksFor MachineDoes IsLost call old.machine new.machine → IsNotedLost old new call noted → IsHistory AsksFor MachineDoes IsLost first new.entries new.later new.stopped new.machine
+lost_behind_it first old new call noted did loss adds =
+    let longer = history_loss AsksFor MachineDoes IsLost first old.entries old.later call old.stopped new.stopped old.machine new.machine did adds.3 loss in
+    subst (λ es. IsHistory AsksFor MachineDoes IsLost first es new.later new.stopped new.machine) (sym adds.1)
+    (subst (λ hs. IsHistory AsksFor MachineDoes IsLost first old.entries hs new.stopped new.machine) (sym adds.2) longer)
+
+pub refusal_ends_a_history : EachRefusalEndsAHistory
+refusal_ends_a_history table members old new shard call refused fresh =
+    let one = refused.lost in
+    let start = refused.seat.home.start in
+    history_of table members start one.new fresh (lost_behind_it start one.old one.new call refused.noted one.before.history one.lost one.adds)
 
 pub sees_a_history : EachLookSeesAHistory
 sees_a_history table members caller shard tenant told look fresh =

@@ -1,5 +1,5 @@
 -- What contracts say of calls, and of the logs at the end. This project's own rule.
-use Rattle.std.specs.Prelude.{◌≡◌, ◌≢◌, ℕ, ◌<◌, ◌≤◌, sum_by, List, [], ◌∷◌, ◌++◌, map, length, Bool, true, false, Option, Some, slice_get}
+use Rattle.std.specs.Prelude.{◌≡◌, ◌≢◌, ◌⊎◌, ℕ, ◌<◌, ◌≤◌, sum_by, List, [], ◌∷◌, ◌++◌, map, length, Bool, true, false, Option, Some, None, Result, slice_get}
 use Rattle.std.specs.Option.{option_or}
 use Rattle.send_retry.specs.declared.answer.Answer.{Answer}
 use Rattle.send_retry.specs.Class.{answer_view}
@@ -14,27 +14,27 @@ use Rattle.tenant_shard.specs.Waiting.{IsWaiting}
 use Rattle.tenant_shard.specs.Lives.{ShardStands}
 use Rattle.tenant_shard.specs.Run.{Run, after_all}
 use Rattle.tenant_shard.specs.Chain.{ShardRuns}
-use Rattle.tenant_shard.specs.Outcomes.{Asked, Answer as Answered, named}
+use Rattle.tenant_shard.specs.Outcomes.{Asked, Answer as Answered, named, named_in}
 use Rattle.tenant_shard.specs.Alone.{alone, own_steps, told_to}
 use Rattle.tenant_shard.specs.Table.{section_of, opened, members_of}
 use Rattle.machine_hub.specs.declared.view.Standing.{Standing}
-use Rattle.machine_hub.specs.Runs.{entry, entries_in, losses, IsHistory}
+use Rattle.machine_hub.specs.Runs.{entry, entries_in, lost_in, losses, IsHistory}
 use Rattle.machine_hub.specs.Slot.{with_history}
 use Rattle.machine_hub.specs.Seats.{SeatState, HasCalls}
 use Rattle.machine_hub.specs.declared.receipt.Receipt.{Receipt}
 use Rattle.machine_hub.specs.declared.told.Told.{Told}
-use Rattle.machine_hub.specs.Hub.{IsCallOn, IsToldOn, seats_at, AreCallsOf, AreLateCallsOf}
+use Rattle.machine_hub.specs.Hub.{IsCallOn, IsRefusalOn, IsToldOn, seats_at, AreCallsOf, AreLateCallsOf, AreLostCallsOf}
 use Rattle.shard_machine.specs.declared.step.Call.{Call}
 use Rattle.shard_machine.specs.declared.step.Call.TheVariants as calls
 use Rattle.shard_machine.specs.declared.step.LoggedStep.{LoggedStep}
-use Rattle.shard_machine.specs.Drawing.{IsLostBySome}
+use Rattle.shard_machine.specs.Drawing.{IsLost}
 use Rattle.shard_machine.specs.MachineState.{MachineState, AsksFor, MachineDoes, started}
 use Rattle.shard_machine.specs.Run.{Logged, steps_of, outcomes_of, drawn_for, section_in, AreFirstWords}
 use Rattle.shared_hub.specs.Shards.{IsFresh}
 
 -- a caller's seat at a shard
 abbrev pub Seat : Type 0
-Seat = SeatState MachineState LoggedStep Outcome
+Seat = SeatState MachineState LoggedStep Outcome Call
 
 -- a caller, by its seats at the shards
 abbrev pub CallerState : Type 0
@@ -42,18 +42,28 @@ CallerState = List Seat
 
 -- a shard with its log
 abbrev pub LoggedShard : Type 0
-LoggedShard = Standing MachineState LoggedStep Outcome
+LoggedShard = Standing MachineState LoggedStep Outcome Call
 
 -- a call made this step of a shard, with this outcome and this receipt
 abbrev pub IsStepOn : CallerState → CallerState → ℕ → Step → Outcome → Option Receipt → Type 0
 IsStepOn old new shard step outcome receipt =
-    IsCallOn AsksFor MachineDoes IsLostBySome old new shard (calls.Step step) outcome receipt
+    IsCallOn AsksFor MachineDoes IsLost old new shard (calls.Step step) outcome receipt
 
 -- a call made the step of a back end's answer, for whose word its tenant's generator was asked
 abbrev pub IsAnswerOn : CallerState → CallerState → ℕ → ℕ → ℕ → ℕ → Answer → Outcome → Option Receipt → Type 0
 IsAnswerOn old new shard tenant now ticket answer outcome receipt =
     (copy : Answer) × (answer_view copy ≡ answer_view answer)
-    × IsCallOn AsksFor MachineDoes IsLostBySome old new shard (calls.Answer tenant now ticket copy) outcome receipt
+    × IsCallOn AsksFor MachineDoes IsLost old new shard (calls.Answer tenant now ticket copy) outcome receipt
+
+-- a call for this step of a shard was refused memory, and left what this step leaves then
+abbrev pub IsStepLostOn : CallerState → CallerState → ℕ → Step → Type 0
+IsStepLostOn old new shard step = IsRefusalOn AsksFor MachineDoes IsLost old new shard (calls.Step step)
+
+-- the same of the step of a back end's answer
+abbrev pub IsAnswerLostOn : CallerState → CallerState → ℕ → ℕ → ℕ → ℕ → Answer → Type 0
+IsAnswerLostOn old new shard tenant now ticket answer =
+    (copy : Answer) × (answer_view copy ≡ answer_view answer)
+    × IsRefusalOn AsksFor MachineDoes IsLost old new shard (calls.Answer tenant now ticket copy)
 
 -- whether a tenant is empty in a shard
 abbrev pub has_none : MachineState → ℕ → Bool
@@ -65,12 +75,12 @@ waits shard tenant waiting = IsWaiting shard.views tenant waiting
 
 -- at one moment of a call the tenant and its shard waited for this, and the shard had been refused memory or hadn't
 abbrev pub IsLookOn : CallerState → ℕ → ℕ → Told Waiting → Type 0
-IsLookOn caller shard tenant told = IsToldOn MachineDoes IsLostBySome waits caller shard tenant told
+IsLookOn caller shard tenant told = IsToldOn AsksFor MachineDoes IsLost waits caller shard tenant told
 
 -- at one moment of a call the tenant was empty or wasn't
 abbrev pub IsEmptyOn : CallerState → ℕ → ℕ → Bool → Type 0
 IsEmptyOn caller shard tenant empty =
-    (stopped : Bool) × IsToldOn MachineDoes IsLostBySome (λ s of answer. answer ≡ has_none s of) caller shard tenant
+    (stopped : Bool) × IsToldOn AsksFor MachineDoes IsLost (λ s of answer. answer ≡ has_none s of) caller shard tenant
     (record { answer = empty; stopped = stopped })
 
 -- the section of a tenant in such a log: the table's, where it was a member at first, or else the one with which it was
@@ -109,7 +119,7 @@ pub record EndsARun (table : SettingsData) (members : List ℕ) (before : List L
 abbrev pub EachCallEndsARun : Type 0
 EachCallEndsARun = (table : SettingsData) (members : List ℕ) (old new : CallerState) (shard : ℕ) (call : Call)
     (outcome : Outcome) (receipt : Option Receipt)
-    (made : IsCallOn AsksFor MachineDoes IsLostBySome old new shard call outcome receipt) →
+    (made : IsCallOn AsksFor MachineDoes IsLost old new shard call outcome receipt) →
     IsFresh table members made.seat.home.start →
     (after : Seat) → slice_get new shard ≡ Some after → after.bare ≡ made.seat.bare →
     EndsARun table members made.made.old.entries call outcome
@@ -160,32 +170,51 @@ abbrev pub IsSpared : ℕ → List ℕ → Type 0
 IsSpared tenant [] = Unit {0}
 IsSpared tenant (other ∷ others) = (other ≢ tenant) × IsSpared tenant others
 
+-- the tenant that a call names; a turn names none
+abbrev pub named_by : Call → Option ℕ
+named_by (calls.Step step) = named_in step
+named_by (calls.Answer tenant now ticket answer) = Some tenant
+
+-- whom a call may cost that was refused memory: the tenant that it names, and a turn whom it goes to
+abbrev pub MayCost : Option ℕ → ℕ → Type 0
+MayCost None tenant = Unit {0}
+MayCost (Some other) tenant = other ≡ tenant
+
+-- in their order these calls cost these tenants, each its own or nobody
+abbrev pub AreCosts : List Call → List ℕ → Type 0
+AreCosts [] hit = hit ≡ []
+AreCosts (call ∷ lost) hit =
+    AreCosts lost hit ⊎ ((tenant : ℕ) × (rest : List ℕ) × (hit ≡ tenant ∷ rest) × MayCost (named_by call) tenant
+    × AreCosts lost rest)
+
 -- all that this shard answered: its entries before memory was refused and then those that came later
 abbrev pub answered : LoggedShard → List Logged
 answered s = s.entries ++ entries_in s.later
 
 -- what a shard of these tenants did from before its first step, with the calls that were refused memory: one chain of
--- what is kept. Each of these calls costs one tenant at most, and each other tenant was told exactly what its life
--- alone says of the steps that were its own
+-- what is kept, in which each of these calls left what its own step may leave. Each costs one tenant at most, its own,
+-- and each other tenant was told exactly what its life alone says of the steps that were its own
 pub record IsHistoryOf (table : SettingsData) (members : List ℕ) (s : LoggedShard) : Type 0 where
   pub first : MachineState
   pub fresh : IsFresh table members first
-  pub history : IsHistory MachineDoes IsLostBySome first s.entries s.later s.stopped s.machine
+  pub history : IsHistory AsksFor MachineDoes IsLost first s.entries s.later s.stopped s.machine
   pub hit : List ℕ
+  pub costs : AreCosts (lost_in s.later) hit
   pub few : length hit ≤ losses s.later
   pub each_alone : (tenant : ℕ) → IsSpared tenant hit →
       told_to tenant (outcomes_of (answered s)) ≡ map (named tenant)
       (alone (opened table members tenant) (own_steps tenant (steps_of (answered s)) (outcomes_of (answered s))))
 
 -- all callers' calls at this shard are one such history, whether or not a log keeps it: each that answered is there
--- once, with its step and outcome, before memory was refused or after, and as many were refused memory as are there
+-- once, with its step and outcome, before memory was refused or after, and each that was refused memory is there once
 pub record IsOneHistory (table : SettingsData) (callers : List CallerState) (shard : ℕ) (s : LoggedShard)
     : Type 0 where
   pub entries : List Logged
-  pub later : List (Option Logged)
+  pub later : List (Result Logged Call)
   pub log : IsHistoryOf table (members_of table shard) (with_history entries later s)
   pub each : AreCallsOf entries (seats_at shard callers)
   pub each_late : AreLateCallsOf (entries_in later) (seats_at shard callers)
+  pub each_lost : AreLostCallsOf (lost_in later) (seats_at shard callers)
   pub count : losses later ≡ sum_by (λ x. x.refused) (seats_at shard callers)
 
 -- so it is at each shard
@@ -198,8 +227,14 @@ AreOneHistory table callers shards =
 abbrev pub EachCallEndsAHistory : Type 0
 EachCallEndsAHistory = (table : SettingsData) (members : List ℕ) (old new : CallerState) (shard : ℕ) (call : Call)
     (outcome : Outcome) (receipt : Option Receipt)
-    (made : IsCallOn AsksFor MachineDoes IsLostBySome old new shard call outcome receipt) →
+    (made : IsCallOn AsksFor MachineDoes IsLost old new shard call outcome receipt) →
     IsFresh table members made.seat.home.start → IsHistoryOf table members made.made.new
+
+-- what the shard of a call did that was refused memory, with what this call left behind it, is such a history too
+abbrev pub EachRefusalEndsAHistory : Type 0
+EachRefusalEndsAHistory = (table : SettingsData) (members : List ℕ) (old new : CallerState) (shard : ℕ) (call : Call)
+    (refused : IsRefusalOn AsksFor MachineDoes IsLost old new shard call) →
+    IsFresh table members refused.seat.home.start → IsHistoryOf table members refused.lost.new
 
 -- what is told of a tenant is so where such a history ends
 abbrev pub EachLookSeesAHistory : Type 0

@@ -6,7 +6,7 @@ ghost use Rattle.tenant_shard.specs.Table.{shard_of};
 ghost use Rattle.machine_hub.specs.Hub.{slots_of, new_caller, AreCallersOf, AreShardRuns, IsRefusedOn};
 ghost use Rattle.shard_machine.specs.MachineState.{MachineDoes};
 ghost use Rattle.shared_hub.specs.Shards.{AreOpened, kept};
-ghost use Rattle.shared_hub.specs.Logs.{IsStepOn, IsAnswerOn, IsLookOn, IsEmptyOn, AreLogged, AreOneRun, AreOneHistory};
+ghost use Rattle.shared_hub.specs.Logs.{IsStepOn, IsAnswerOn, IsStepLostOn, IsAnswerLostOn, IsLookOn, IsEmptyOn, AreLogged, AreOneRun, AreOneHistory};
 ghost use Rattle.shared_hub.specs.declared.fault.HubFault.TheVariants as faults;
 
 use crate::copy::copy_of;
@@ -93,6 +93,7 @@ impl SharedHub {
         ensures same_hub { slots_of me.new ≡ self.now }
         ensures call { IfOk result (λ r. IsStepOn me.old me.new shard step r.0 r.1) }
         ensures on_refusal { OnErr result (IsRefusedOn me.old me.new shard) }
+        ensures lost { OnErr result (IsStepLostOn me.old me.new shard step) }
         ensures fault { IfErr result (λ fault. fault ≡ faults.OutOfMemory) }
     {
         let made = self.hub.step(rt, alloc, me, shard, Call::Step(step))?;
@@ -119,6 +120,9 @@ impl SharedHub {
             answer.now r.0 r.1) }
         ensures on_refusal { OnErr result ((me.new ≡ me.old)
             ⊎ IsRefusedOn me.old me.new (shard_of (length self.now) tenant)) }
+        ensures lost { OnErr result ((me.new ≡ me.old)
+            ⊎ IsAnswerLostOn me.old me.new (shard_of (length self.now) tenant) tenant now ticket
+            answer.now) }
         ensures fault { IfErr result (λ fault. fault ≡ faults.OutOfMemory) }
     {
         let answer = copy_of(answer)?;

@@ -10,7 +10,7 @@
 //! for entries kept in little room, and on `tail_settings` for the tenants. Its rules come from no public text.
 #![tactic(auto)]
 
-ghost use Rattle.shared_hub.specs.Logs.{EachCallEndsARun, EachCallEndsAHistory, EachLookSeesARun, EachLookSeesAHistory, LogsTellByOwnSteps};
+ghost use Rattle.shared_hub.specs.Logs.{EachCallEndsARun, EachCallEndsAHistory, EachRefusalEndsAHistory, EachLookSeesARun, EachLookSeesAHistory, LogsTellByOwnSteps};
 
 mod copy;
 mod fault;
@@ -54,9 +54,10 @@ pub fn each_look_sees_a_run()
 }
 
 /// Want of memory at a shard costs the tenants little whose calls were refused it, and the others nothing: a law over
-/// calls, also those that come after it, and over looks.
+/// calls, also those that come after it, over those that are refused it, and over looks.
 pub fn each_answer_is_of_a_history()
     ensures calls { EachCallEndsAHistory }
+    ensures refusals { EachRefusalEndsAHistory }
     ensures looks { EachLookSeesAHistory }
 {}
 

@@ -27,7 +27,7 @@ impl Machine for Counter {
 
     ghost steps = { λ old step outcome new. outcome ≡ old.count };
 
-    ghost loses = { λ old new. new ≡ old };
+    ghost loses = { λ call old new. new ≡ old };
 
     ghost reads = { λ state least answer. answer ≡ not (nat_lt state.count least) };
 

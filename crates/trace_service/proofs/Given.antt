@@ -10,6 +10,7 @@ use Rattle.job_lane.specs.Law.{all_pushes, all_pops, PopsWerePushed}
 use Rattle.log_positions.specs.Numbered.{items_of}
 use Rattle.machine_hub.specs.Runs.{entry}
 use Rattle.machine_hub.specs.Seats.{seat_after, seat_refused, IsNoted}
+use Rattle.shard_machine.specs.declared.step.Call.{Call}
 use Rattle.shard_machine.specs.Run.{Logged}
 use Rattle.shared_hub.specs.Logs.{CallerState, Seat, LoggedShard}
 use Rattle.tail_settings.specs.Settings.{SettingsData}
@@ -65,8 +66,8 @@ after_more seat false noted job gave = record {
   outcome = gave.outcome;
 }
 
-after_refused : (seat : Seat) (job : Job) → SeatGave seat job → SeatGave (seat_refused seat) job
-after_refused seat job gave = record { noted = gave.noted; among = gave.among; outcome = gave.outcome }
+after_refused : (seat : Seat) (noted : ℕ × Call) (job : Job) → SeatGave seat job → SeatGave (seat_refused seat noted) job
+after_refused seat noted job gave = record { noted = gave.noted; among = gave.among; outcome = gave.outcome }
 
 newest : (seat : Seat) (late : Bool) (noted : ℕ × Logged) (job : Job) → noted.1.outcome ≡ outcomes.Job job.tenant job.ticket job.payload
     → SeatGave (seat_after seat late noted) job
@@ -99,7 +100,7 @@ turn_keeps old new shard t job (made outcome receipt call came) has =
     subst (λ (c : CallerState). HasGiven c job) (sym call.after)
     (kept_in old shard call.seat (seat_after call.seat call.late call.noted) job call.at (after_more call.seat call.late call.noted job) has)
 turn_keeps old new shard t job (refused none came) has =
-    subst (λ (c : CallerState). HasGiven c job) (sym none.2) (kept_in old shard none.0 (seat_refused none.0) job none.1 (after_refused none.0 job) has)
+    subst (λ (c : CallerState). HasGiven c job) (sym none.3) (kept_in old shard none.0 (seat_refused none.0 none.1) job none.2 (after_refused none.0 none.1 job) has)
 
 turn_gives : (old new : CallerState) (shard : ℕ) (t : Turn) (job : Job) → MakesTurn old new shard t → Contains (jobs_in t) job → HasGiven new job
 turn_gives old new shard t job (made outcome receipt call came) has =

@@ -9,7 +9,7 @@ pub finish-requires-clause-slot : goal.finish-requires-clause-slot
 finish-requires-clause-slot g c κs within = (last_slots _ _ _ _ _ _ c.loop-slot.invariant.1 c.in-Some-pop.ensures.items c.in-Some.ensures.items).1
 
 pub finish-requires-clause-all : goal.finish-requires-clause-all
-finish-requires-clause-all g c κs within = ending_full g.M.Machine.steps g.M.Machine.loses _ _ _ _ _ c.loop-slot.invariant.0 c.in-Some-pop.ensures.items
+finish-requires-clause-all g c κs within = ending_full g.M.Machine.asks g.M.Machine.steps g.M.Machine.loses _ _ _ _ _ c.loop-slot.invariant.0 c.in-Some-pop.ensures.items
 
 pub loop-slot-preserved : goal.loop-slot-preserved
 loop-slot-preserved g c = (

@@ -6,7 +6,7 @@ use Rattle.machine_hub.proofs.hub.finish_all.Given as goal
 
 abbrev pub invariant-loop-slot : goal.invariant-loop-slot
 invariant-loop-slot g l =
-    IsEnding g.M.Machine.steps g.M.Machine.loses l.fn.keepers.items l.keepers.items l.room.items × (keeper_slots l.keepers.items ≡ l.shards.items)
+    IsEnding g.M.Machine.asks g.M.Machine.steps g.M.Machine.loses l.fn.keepers.items l.keepers.items l.room.items × (keeper_slots l.keepers.items ≡ l.shards.items)
     × (vec_len l.keepers + vec_len l.room ≤ vec_capacity l.room)
 
 abbrev pub decreases-loop-slot : goal.decreases-loop-slot

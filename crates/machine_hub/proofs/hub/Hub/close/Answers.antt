@@ -22,7 +22,7 @@ pub finish_all-requires-clause-all : goal.finish_all-requires-clause-all
 finish_all-requires-clause-all g c κs within = gathered_full _ _ _ _ _ _ c.loop-caller.invariant.0 (search rules)
 
 pub returns-clause-runs : goal.returns-clause-runs
-returns-clause-runs g c = shard_runs g.M.Machine.steps g.M.Machine.loses _ _ _ _ _ _ _ _ _ c.keeper.invariant.0 (ap (λ x. x.homes) c.keeper.view_is) c.loop-caller.invariant.0 (search rules) c.finish_all.ensures
+returns-clause-runs g c = shard_runs g.M.Machine.asks g.M.Machine.steps g.M.Machine.loses _ _ _ _ _ _ _ _ _ c.keeper.invariant.0 (ap (λ x. x.homes) c.keeper.view_is) c.loop-caller.invariant.0 (search rules) c.finish_all.ensures
 
 pub returns-clause-histories : goal.returns-clause-histories
-returns-clause-histories g c = shard_histories g.M.Machine.steps g.M.Machine.loses _ _ _ _ _ _ _ _ _ c.keeper.invariant.0 (ap (λ x. x.homes) c.keeper.view_is) c.loop-caller.invariant.0 (search rules) c.finish_all.ensures
+returns-clause-histories g c = shard_histories g.M.Machine.asks g.M.Machine.steps g.M.Machine.loses _ _ _ _ _ _ _ _ _ c.keeper.invariant.0 (ap (λ x. x.homes) c.keeper.view_is) c.loop-caller.invariant.0 (search rules) c.finish_all.ensures

@@ -6,5 +6,5 @@ use Rattle.machine_hub.proofs.slot.Slot.open.Given as goal
 
 abbrev pub invariant-loop : goal.invariant-loop
 invariant-loop g l =
-    IsPassOf l.cell l.root × (known l.root ≡ seat_view (all_parts - l.counter) (home_of l.fn.machine) None [] [] 0 0) × (ruled_capacity l.cell ≡ 1)
+    IsPassOf l.cell l.root × (known l.root ≡ seat_view (all_parts - l.counter) (home_of l.fn.machine) None [] [] 0 0 []) × (ruled_capacity l.cell ≡ 1)
     × (l.list.items ≡ replicate l.counter (new_seat l.cell.table.shared.table_id (home_of l.fn.machine)))

@@ -1,26 +1,12 @@
 use Rattle.std.proofs.Common.{subst, inl, inr, refl}
 use Rattle.tenant_shard.specs.Chain.{ShardDoes}
-use Rattle.shard_machine.specs.Drawing.{IsLost, IsLostBySome}
+use Rattle.shard_machine.specs.Drawing.{IsLost}
 use Rattle.shard_machine.specs.MachineState.{MachineState, MachineDoes, AreMembers}
 use Rattle.shard_machine.proofs.Going.{still_ready, members_ready, machine_does}
 use Rattle.shard_machine.proofs.Comings.{if_refused, settled}
 use Rattle.shard_machine.proofs.shard.ShardMachineMachine.make.Goals as goal
 
 -- no memory for a generator
-pub returns-in_err-newly-clause-on_refusal : goal.returns-in_err-newly-clause-on_refusal
-returns-in_err-newly-clause-on_refusal c =
-    let made = c.ready-made.result in
-    let before : MachineState = record { views = c.self.inside.shard.value; words = c.self.inside.words } in
-    let after : MachineState = record { views = c.self.inside.shard.value; words = c.seed_newcomer.new.words } in
-    let out = c.in_err-newly.ensures.on_refusal in
-    let lost : IsLost c.args.call before after = record {
-      made = made;
-      asked = c.ready-made.ensures.asked;
-      shard = inr (out.0, refl);
-      words = still_ready made.word made.step before.words c.ready-made.new.words after.words c.ready-made.ensures.words out.1;
-    } in
-    if_refused _ c.from_residual.result (subst (λ s. IsLost c.args.call s after) c.self.view_is lost)
-
 pub returns-in_err-newly-clause-lost : goal.returns-in_err-newly-clause-lost
 returns-in_err-newly-clause-lost c =
     let made = c.ready-made.result in
@@ -33,27 +19,9 @@ returns-in_err-newly-clause-lost c =
       shard = inr (out.0, refl);
       words = still_ready made.word made.step before.words c.ready-made.new.words after.words c.ready-made.ensures.words out.1;
     } in
-    if_refused _ c.from_residual.result (subst (λ s. IsLostBySome s after) c.self.view_is (c.args.call, lost))
+    if_refused _ c.from_residual.result (subst (λ s. IsLost c.args.call s after) c.self.view_is lost)
 
 -- no memory for the step
-pub returns-in_err-outcome-clause-on_refusal : goal.returns-in_err-outcome-clause-on_refusal
-returns-in_err-outcome-clause-on_refusal c =
-    let made = c.ready-made.result in
-    let state = rw c.deref_mut.ensures.value at c.step-told.ensures.from_state in
-    let refused = rw c.deref_mut.ensures.value at c.step-told.ensures.on_refusal in
-    let before : MachineState = record { views = c.self.inside.shard.value; words = c.self.inside.words } in
-    let after : MachineState = record { views = c.step-told.new.self; words = c.remove_leaver.new.words } in
-    let ready = c.ready-made.new.words in
-    let are : AreMembers ready before.views = members_ready made.word made.step before.words ready before.views c.self.invariant c.ready-made.ensures.words in
-    let came = settled made.step ready c.seed_newcomer.new.words after.words c.in_ok-newly.newly before.views after.views c.step-told.result are c.in_ok-newly.ensures.tried state refused c.remove_leaver.ensures in
-    let lost : IsLost c.args.call before after = record {
-      made = made;
-      asked = c.ready-made.ensures.asked;
-      shard = inl (rw c.in_err-outcome.was at refused);
-      words = still_ready made.word made.step before.words ready after.words c.ready-made.ensures.words (rw c.in_err-outcome.was at came.kept);
-    } in
-    if_refused _ c.from_residual-in_err-outcome.result (subst (λ s. IsLost c.args.call s after) c.self.view_is lost)
-
 pub returns-in_err-outcome-clause-lost : goal.returns-in_err-outcome-clause-lost
 returns-in_err-outcome-clause-lost c =
     let made = c.ready-made.result in
@@ -70,7 +38,7 @@ returns-in_err-outcome-clause-lost c =
       shard = inl (rw c.in_err-outcome.was at refused);
       words = still_ready made.word made.step before.words ready after.words c.ready-made.ensures.words (rw c.in_err-outcome.was at came.kept);
     } in
-    if_refused _ c.from_residual-in_err-outcome.result (subst (λ s. IsLostBySome s after) c.self.view_is (c.args.call, lost))
+    if_refused _ c.from_residual-in_err-outcome.result (subst (λ s. IsLost c.args.call s after) c.self.view_is lost)
 
 pub returns-clause-made : goal.returns-clause-made
 returns-clause-made c =
