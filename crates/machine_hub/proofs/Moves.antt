@@ -206,7 +206,8 @@ module _ {M S O C : Type 0} (asks : C → S → Type 0) (steps : M → S → O �
       let call = is.1 in
       let back = is.2 in
       let off = is.3 in
-      let lost = v.lost ++ (length (lost_in old.later), call) ∷ [] in
+      let noted : ℕ × C = (length (lost_in old.later), call) in
+      let lost = v.lost ++ noted ∷ [] in
       let w = seat_view v.parts v.home None v.calls v.late v.bare (v.refused + 1) lost in
       let home = known items views h i v old at back.held back.part in (
         w,

@@ -108,9 +108,7 @@ impl<M: Machine, L: StepLog<M>> LoggedMachine<M, L> {
     {
         let asked = Some(call);
         self.asked = Remembered::of(&asked);
-        let Some(call) = asked else {
-            unreachable!()
-        };
+        let Some(call) = asked else { unreachable!() };
         call
     }
 

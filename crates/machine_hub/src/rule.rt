@@ -7,8 +7,12 @@ use crate::view::SlotView;
 use crossbeam_queue::protocol::{Join, Lesson, Outcome, Protocol, Split};
 
 /// What a slot's pass knows.
-pub type ViewOf<M> =
-    SlotView<M, <M as Machine>::Step, <M as Machine>::Outcome, <M as Machine>::Call>;
+pub type ViewOf<M> = SlotView<
+    M,
+    <M as Machine>::Step,
+    <M as Machine>::Outcome,
+    <M as Machine>::Call,
+>;
 
 /// One at a time has the machine.
 pub struct OneAtATime;

@@ -175,12 +175,12 @@ abbrev pub named_by : Call → Option ℕ
 named_by (calls.Step step) = named_in step
 named_by (calls.Answer tenant now ticket answer) = Some tenant
 
--- whom a call may cost that was refused memory: the tenant that it names, and a turn whom it goes to
+-- whom a call may cost that was refused memory: the tenant that it names, where it names one
 abbrev pub MayCost : Option ℕ → ℕ → Type 0
 MayCost None tenant = Unit {0}
 MayCost (Some other) tenant = other ≡ tenant
 
--- in their order these calls cost these tenants, each its own or nobody
+-- in their order these calls cost these tenants, each the one whom it may cost or nobody
 abbrev pub AreCosts : List Call → List ℕ → Type 0
 AreCosts [] hit = hit ≡ []
 AreCosts (call ∷ lost) hit =
@@ -192,8 +192,8 @@ abbrev pub answered : LoggedShard → List Logged
 answered s = s.entries ++ entries_in s.later
 
 -- what a shard of these tenants did from before its first step, with the calls that were refused memory: one chain of
--- what is kept, in which each of these calls left what its own step may leave. Each costs one tenant at most, its own,
--- and each other tenant was told exactly what its life alone says of the steps that were its own
+-- what is kept, in which each of these calls left what its own step may leave. Each costs one tenant at most, the one
+-- that it names, and each other tenant was told exactly what its life alone says of the steps that were its own
 pub record IsHistoryOf (table : SettingsData) (members : List ℕ) (s : LoggedShard) : Type 0 where
   pub first : MachineState
   pub fresh : IsFresh table members first

@@ -3,7 +3,7 @@ use Rattle.machine_hub.proofs.Closing.{ending_first, ending_full, ending_next, l
 use Rattle.machine_hub.proofs.hub.finish_all.Goals as goal
 
 pub loop-slot-init : goal.loop-slot-init
-loop-slot-init g c = (ending_first _ _ _ _ c.requires.room.0 c.requires.all, c.requires.keepers, search rules)
+loop-slot-init g c = (ending_first _ _ _ _ _ c.requires.room.0 c.requires.all, c.requires.keepers, search rules)
 
 pub finish-requires-clause-slot : goal.finish-requires-clause-slot
 finish-requires-clause-slot g c κs within = (last_slots _ _ _ _ _ _ c.loop-slot.invariant.1 c.in-Some-pop.ensures.items c.in-Some.ensures.items).1
@@ -13,7 +13,7 @@ finish-requires-clause-all g c κs within = ending_full g.M.Machine.asks g.M.Mac
 
 pub loop-slot-preserved : goal.loop-slot-preserved
 loop-slot-preserved g c = (
-  ending_next _ _ _ _ _ _ _ _ _ c.loop-slot.invariant.0 c.in-Some-pop.ensures.items c.finish.ensures c.push_reserved.ensures.items,
+  ending_next _ _ _ _ _ _ _ _ _ _ c.loop-slot.invariant.0 c.in-Some-pop.ensures.items c.finish.ensures c.push_reserved.ensures.items,
   (last_slots _ _ _ _ _ _ c.loop-slot.invariant.1 c.in-Some-pop.ensures.items c.in-Some.ensures.items).0,
   search rules,
 )

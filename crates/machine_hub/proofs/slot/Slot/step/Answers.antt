@@ -26,16 +26,16 @@ returns-in-Ok-clause-made g c =
     step_of _ _ _ c.args.call c.me.inside.pass.table_id c.put_stepped.new.pass.table_id (known c.me.inside.pass) (known c.take-machine.new.pass) (known c.put_stepped.new.pass) _ c.take-machine.result c.apply.new.self _ _
     c.me.view_is (p.0.0 ∙ t.0.0) c.me.invariant.1 t.1 p.1 c.in-Ok.ensures.made
 
-pub invariant_of-me-2 : goal.invariant_of-me-2
-invariant_of-me-2 g c =
+pub invariant_of-me-in-Err : goal.invariant_of-me-in-Err
+invariant_of-me-in-Err g c =
     let i = c.me.invariant in
     let p = c.put_stopped.ensures in
     let t = c.take-machine.ensures in
     let k = seat_remains _ _ _ c.args.call (known c.me.inside.pass) (known c.take-machine.new.pass) (known c.put_stopped.new.pass) c.take-machine.result c.apply.new.self t.1 p.1 i.1 i.3 c.apply.ensures.asked in
     (p.0.2 ∙ t.0.2 ∙ i.0, k.0, k.1, k.2)
 
-pub returns-in-Err-clause-on_refusal : goal.returns-in-Err-clause-on_refusal
-returns-in-Err-clause-on_refusal g c =
+pub returns-clause-on_refusal : goal.returns-clause-on_refusal
+returns-clause-on_refusal g c =
     let p = c.put_stopped.ensures in
     let t = c.take-machine.ensures in
     refusal_of _ _ _ c.args.call c.me.inside.pass.table_id c.put_stopped.new.pass.table_id (known c.me.inside.pass) (known c.take-machine.new.pass) (known c.put_stopped.new.pass) _ c.take-machine.result c.apply.new.self
