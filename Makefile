@@ -9,7 +9,7 @@ tried = said=$$(python3 tests/$(1) $(PROGRAM)/out/trace_collector_program $(2)) 
 # what has passed on this machine as it stands, the edits that must be refused, the tests
 # and the programs; last what the program that was built there prints.
 test: checks
-	@command -v rt > /dev/null || { echo 'make: there is no command rt: docs/BUILDING.md names the toolchain' >&2; exit 1; }
+	@command -v rt > /dev/null || { echo 'make: there is no command rt: docs/OPERATING.md names the toolchain' >&2; exit 1; }
 	@rt ci
 	@$(call tried,program.py)
 	@$(call tried,stories.py)
@@ -84,7 +84,7 @@ PICTURES = $(PAGES)/pictures
 
 # What stands in these folders under its own name.
 EXAMPLES_TO_READ = trace.pb prometheus.yml alerts.yml nginx.conf
-OPERATORS_PAGES = $(addsuffix .md,OPERATING ADMIN METRICS TROUBLE SIZING CONNECTING SCALING SETTINGS FAULTS HTTP SCRIPT)
+OPERATORS_PAGES = $(addsuffix .md,OPERATING RUNBOOK SIZING SETTINGS HTTP SCRIPT)
 OPERATORS_PICTURES = admin-light.png admin-dark.png admin-narrow.png
 
 # Puts the program that is built, its manual page, its unit for systemd with what asks it to drain, examples to start from and

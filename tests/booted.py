@@ -26,7 +26,7 @@ from serving.talk import (MOST, BackEnd, body, check, free_port, globals_of, hea
 
 PORT, ADMIN = 4318, 9464
 HERE = Path(__file__).resolve().parent.parent
-ADMIN_PAGE = HERE / "docs/ADMIN.md"
+OPERATING = HERE / "docs/OPERATING.md"
 UNIT, SETTINGS = "nimchaes.service", "/etc/nimchaes/settings.toml"
 GOOD, ENDED, LIMIT = ["active", "success", "0"], ["inactive", "success", "0"], 5
 # What would speak to the kernel, and what nobody needs there.
@@ -220,9 +220,9 @@ def is_killed(machine, back_end):
 
 
 def with_token(machine):
-    """As docs/ADMIN.md has it for operators elsewhere: nothing is told without the token, and a stop has the one that
+    """As docs/OPERATING.md has it for operators elsewhere: nothing is told without the token, and a stop has the one that
     the process was given, also where another one has taken its place in the file."""
-    given = re.search(r"```ini\n(\[Service\]\nLoadCredential=.*?)```", ADMIN_PAGE.read_text(), re.DOTALL)[1]
+    given = re.search(r"```ini\n(\[Service\]\nLoadCredential=.*?)```", OPERATING.read_text(), re.DOTALL)[1]
     token = machine.file("/etc/nimchaes/token")
     token.write_text("0123456789abcdef\n")
     token.chmod(0o600)

@@ -94,7 +94,7 @@ def made(where, crate):
 def build(crate, file, names, lines):
     """Builds the file, or ends with what was said last."""
     start = time.monotonic()
-    print(f"Proving {len(names)} crates and building {file}. The first time this is long (README.md); each crate that is done is\n"
+    print(f"Proving {len(names)} crates and building {file}. The first time this is long (docs/OPERATING.md); each crate that is done is\n"
           "named, with the time since the start. It may be broken off: with rattle-kit-13f the next run takes up what is done.",
           flush=True)
     with tempfile.TemporaryDirectory(prefix="trace_collector-build-", ignore_cleanup_errors=True) as room:
@@ -113,7 +113,7 @@ def build(crate, file, names, lines):
 
 def main(crate, file):
     if not shutil.which("rt"):
-        sys.exit("make: there is no command rt: docs/BUILDING.md names the toolchain")
+        sys.exit("make: there is no command rt: docs/OPERATING.md names the toolchain")
     lines, uses = lines_of(ROOT)
     names = below(crate, uses)
     LOG.parent.mkdir(exist_ok=True)

@@ -23,8 +23,7 @@ from serving.runs import end, run
 from serving.talk import MOST, body, check, wait_for
 
 HERE = Path(__file__).resolve().parent.parent
-PAGES = ("README.md", *(f"docs/{name}.md" for name in (
-    "OPERATING", "ADMIN", "TROUBLE", "SIZING", "CONNECTING", "SCALING", "SCRIPT")))
+PAGES = ("README.md", *(f"docs/{name}.md" for name in ("OPERATING", "RUNBOOK", "SIZING", "HTTP", "SCRIPT")))
 # what isn't typed here, and why
 NOT_TYPED = {
     r"make (serve|trace_collector|deb)\b": "proves; what it runs then is typed below, or built by tests/package.py",
@@ -123,8 +122,8 @@ def command(page, begin):
 
 
 def by_standard_input(folder):
-    """The first ten minutes without the port: half a second after the post the back end says what came, and lines of standard
-    input tell counters and have a tenant come and go; their end is a drain."""
+    """docs/OPERATING.md's quick start without the port: half a second after the post the back end says what came, and lines
+    of standard input report counters, add and remove a tenant; their end is a drain."""
     terminal, page = Terminal(folder), "docs/OPERATING.md"
     serve = command(page, "./trace_collector serve examples/service.toml").replace(" --admin 127.0.0.1:9464", "")
     with terminal.start(command(page, "python3 examples/back_end.py")) as back_ends, \
@@ -154,8 +153,8 @@ def shown(folder):
         check(f"make serve: {line!r} in {said!r}", any(told.startswith(line) for told in said.splitlines()), True)
 
 
-def first_ten_minutes(folder):
-    """docs/OPERATING.md: three terminals with the admin port, then settings of one's own."""
+def quick_start(folder):
+    """docs/OPERATING.md's quick start: three terminals with the admin port, then settings of one's own."""
     terminal, page = Terminal(folder), "docs/OPERATING.md"
     with terminal.start(command(page, "python3 examples/back_end.py")) as back_ends, \
             terminal.start(command(page, "./trace_collector serve examples/service.toml")) as service:
@@ -184,9 +183,9 @@ def first_ten_minutes(folder):
 
 
 def tenants_and_tokens(folder):
-    """Many clients, a tenant that comes and goes, and a token."""
-    terminal, page, first = Terminal(folder), "docs/ADMIN.md", "docs/OPERATING.md"
-    status, limit = command(first, "ulimit -n"), command(first, "./trace_collector serve my.toml")
+    """docs/OPERATING.md: many clients, a tenant that is removed and added, and a token."""
+    terminal, page = Terminal(folder), "docs/OPERATING.md"
+    status, limit = command(page, "ulimit -n"), command(page, "./trace_collector serve my.toml")
     typed.add(status)
     Path(folder, "tenant.toml").write_text(TENANT)
     check("a token", terminal.type(command(page, "openssl rand"))[0], 0)
@@ -199,7 +198,7 @@ def tenants_and_tokens(folder):
                                      ("another comes", come, "HTTP/1.1 201 ")):
             status, said = terminal.type(typing)
             check(f"{what}: {said}", (status, said.partition("HTTP/")[1] + said.partition("HTTP/")[2][:8]), (0, wanted))
-        check("a drain", terminal.type(command(first, "curl -X POST http://127.0.0.1:9464/drain"))[0], 0)
+        check("a drain", terminal.type(command(page, "curl -X POST http://127.0.0.1:9464/drain"))[0], 0)
         check("it ends", service.run.wait(MOST), 0)
     with_token = limit.replace("127.0.0.1:9464", "127.0.0.1:9464 --admin-token-file token")
     with Started(["bash", "-c", f"ulimit -n 2048\nexec {with_token} --verbose"], folder) as service:
@@ -210,9 +209,9 @@ def tenants_and_tokens(folder):
 
 
 def first_look(folder):
-    """docs/TROUBLE.md: of a span without an id, of who is connected, and of a back end that isn't there and then is; and each alert
-    is there."""
-    terminal, page, first = Terminal(folder), "docs/TROUBLE.md", "docs/OPERATING.md"
+    """docs/RUNBOOK.md: a span without an id, an open connection, and a back end that is down and then up; and each alert is
+    there once."""
+    terminal, page, first = Terminal(folder), "docs/RUNBOOK.md", "docs/OPERATING.md"
     alerts = re.findall(r"- alert: (\w+)", (HERE / "examples/alerts.yml").read_text())
     check("alerts", sorted(re.findall(r"`(Nimchaes\w+)`", (HERE / page).read_text())), sorted(alerts))
     look, *chosen, client, connected, asks = commands_of(page)
@@ -257,7 +256,7 @@ def replayed(folder):
     check("its answers", terminal.type(second), (0, wanted))
 
 
-TESTS = (shown, by_standard_input, first_ten_minutes, tenants_and_tokens, first_look, replayed)
+TESTS = (shown, by_standard_input, quick_start, tenants_and_tokens, first_look, replayed)
 ALL = {found for page in PAGES for found in commands_of(page)}
 
 

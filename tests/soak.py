@@ -11,7 +11,7 @@ in it, by a reset, at rest until `--client-timeout`, or with a reply that they d
 It prints a line a minute: spans that were taken, tenants that went, memory, threads and descriptors of the process. At
 the end it is drained. Of each tenant, those that went too, what its clients were told, its last report, and what came to
 its back end have to agree, each span once. It ends with 1 where they don't, or where threads, descriptors or memory
-rise. With `MALLOC_ARENA_MAX=2` memory stays from the first minutes on (docs/SIZING.md, "Memory").
+rise. With `MALLOC_ARENA_MAX=2` memory stays from the first minutes on (docs/SIZING.md, "Memory variables").
 """
 
 import argparse

@@ -6,7 +6,7 @@
 Takes the program's path, `./trace_collector` if there is none. `curl`, `ab`, `wrk`, `h2load`, `nghttp`, `nginx` (with `openssl`), `haproxy`,
 `apache2`, `varnishd`, `promtool`, `prometheus`, `go` and its OpenTelemetry SDK, `node`, and the Python library h11, a strict reader and writer of HTTP/1.1,
 are used where they are installed; it says which aren't. h11 posts ten thousand messages that are made by chance, and is a
-back end that answers as many by chance; Go's net/http and Node's http do so with three thousand (tests/strangers/). What has to come is what docs/HTTP.md says, and docs/METRICS.md of metrics. It prints what is wrong, and
+back end that answers as many by chance; Go's net/http and Node's http do so with three thousand (tests/strangers/). What has to come is what docs/HTTP.md says, and docs/RUNBOOK.md of metrics. It prints what is wrong, and
 ends with 1 where something is.
 """
 

@@ -1,4 +1,4 @@
-"""Exporters that are set up wrongly, and the refusals by which docs/TROUBLE.md ("Clients are refused, or wait") knows them."""
+"""Exporters that are set up wrongly, and the responses by which docs/RUNBOOK.md ("Clients") knows them."""
 
 import gzip
 import ssl
