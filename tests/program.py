@@ -431,7 +431,7 @@ def checks_examples(checked):
         status, out = said((HERE / "examples/from-the-collector" / example).read_text(), "")
         check(f"what {example} says", (status, tomllib.loads(out)), (0, in_force(*tenants, **{"senders": 10, **globals_of})))
     blocks = re.findall("^```toml\n(.*?)^```$", (HERE / "docs/SETTINGS.md").read_text(), re.M | re.S)
-    check("documents of docs/SETTINGS.md", len(blocks) > 10, True)
+    check("documents of docs/SETTINGS.md", len(blocks) > 1, True)
     for example in blocks:
         status, out = said(example)
         check(f"{example!r} of docs/SETTINGS.md", (status, out.partition("\n")[0]), (0, "# the settings in force"))
@@ -459,7 +459,7 @@ def checks():
             check("a full disk for doubts", ended(["check", str(checked.file)], stderr=full), (0, IN_FORCE.encode(), None))
 
 
-FAULTS = HERE / "docs/FAULTS.md"
+FAULTS = HERE / "tests/settings/faults.list"
 KEYS = HERE / "crates/settings_check/src/table.rt"
 ALWAYS = 'policy = [{ type = "always_sample" }]'
 TITLES = {"The document": "the document"}
@@ -467,19 +467,21 @@ WRONG = {"11": "is missing", "12": "is of another kind, or a member of it is", "
 
 
 def rows_of_faults():
-    """Of each row of docs/FAULTS.md its section, the fault's number and key, what is wrong and right, and what may be."""
-    section = None
-    for line in FAULTS.read_text().splitlines():
-        section = line[3:].strip("`") if line.startswith("## ") else section
-        cells = [cell.strip() for cell in line.split("|")[1:-1]]
-        if len(cells) == 4 and cells[0].startswith("`settings fault"):
-            number, key = (cells[0].strip("`") + " ").split(" ")[2:4]
-            wrong, right = (re.findall("`([^`]*)`", re.sub("no `[^`]*`", "``", cell)) for cell in cells[1:3])
-            yield section, number, key, wrong, right, cells[3]
+    """Of each row of tests/settings/faults.list its section, the fault's number and key, what is wrong and right, and what
+    the key may be."""
+    for section in re.split("^## ", FAULTS.read_text(), flags=re.M)[1:]:
+        title, *rows = section.strip("\n").split("\n\n")
+        for row in rows:
+            head, *lines = row.split("\n")
+            fault, _, may_be = head.partition(": ")
+            number, _, key = fault.partition(" ")
+            wrong, right = ([line[len(kind) :].strip() for line in lines if line.startswith(kind)] for kind in ("wrong", "right"))
+            check(f"lines of {head}", len(wrong) + len(right), len(lines))
+            yield title, number, key, wrong, right, may_be
 
 
 def with_line(section, key, code):
-    """A file with this in the table of a section of docs/FAULTS.md, the rest being good."""
+    """A file with this in the table of a section of faults.list, the rest being good."""
     if section == "The document":
         return code + "\n"
     if section == "[global]":
@@ -503,7 +505,7 @@ def policy_of(key, code):
 
 
 def told_of(section, number, key, may_be, code):
-    """How the first lines of what is told of a fault of docs/FAULTS.md end."""
+    """How the first lines that `check` prints of a fault of faults.list end."""
     if number in WRONG:
         title = TITLES.get(section) or "table " + section.strip("[]").rsplit(".", 1)[-1]
         title = policy_of(key, code) if section == "Policies" else title
@@ -512,9 +514,10 @@ def told_of(section, number, key, may_be, code):
             "14": [f"settings fault 14 {key}", f"a second tenant has the name {key}"]}[number]
 
 
-def page_of_faults():
-    """Each example of docs/FAULTS.md is told as the page says, and each key that there is has its rows."""
-    of_kind = set()
+def faults_of_keys():
+    """`check` prints of each example of faults.list what its row says, and each key that there is has its rows."""
+    rows, of_kind = list(rows_of_faults()), set()
+    check("rows of faults.list", len(rows), 86)
     with tempfile.TemporaryDirectory() as folder:
         file = Path(folder, "settings.toml")
 
@@ -523,7 +526,7 @@ def page_of_faults():
             status, out, _ = ended(["check", str(file)])
             return status, out.decode().split("\n")
 
-        for section, number, key, wrong, right, may_be in rows_of_faults():
+        for section, number, key, wrong, right, may_be in rows:
             of_kind |= {key} if number == "12" else set()
             for code in wrong:
                 status, lines = said(with_line(section, key, code))
@@ -533,7 +536,7 @@ def page_of_faults():
             for code in right:
                 status, lines = said(with_line(section, key, code))
                 check(f"{code} of {section}", (status, lines[0]), (0, "# the settings in force"))
-    check("keys of the page", of_kind, set(re.findall('Key::\\w+ => "(\\w+)"', KEYS.read_text())))
+    check("keys of faults.list", of_kind, set(re.findall('Key::\\w+ => "(\\w+)"', KEYS.read_text())))
 
 
 TABLES = HERE / "tests/settings"
@@ -703,7 +706,7 @@ usage()
 faults()
 course()
 checks()
-page_of_faults()
+faults_of_keys()
 tables_of_settings()
 answers_at_once()
 late_spans()
