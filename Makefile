@@ -60,6 +60,12 @@ replay: trace_collector
 serve: trace_collector
 	@python3 examples/serve.py
 
+# Shows the service in minutes, by a program that is built without proofs and checked at run time, until Ctrl-C. With ARGS it
+# runs a command of that program instead, as `make preview ARGS="check my.toml"`.
+.PHONY: preview
+preview:
+	@python3 examples/preview.py $(ARGS)
+
 BODY = examples/trace.pb
 SCRIPT = out/script
 STORY = examples/story
