@@ -14,7 +14,6 @@ import json
 import signal
 import subprocess
 import sys
-import time
 
 from demo import HERE, SETTINGS, are_shown, arrived, is_up, ports, post_all, say, start, start_back_ends, taken, wait_for
 from unproved import NOTICE, is_missing, note, program
@@ -63,6 +62,8 @@ def status_of(code):
 
 def drain(run, admin):
     """Asks for the end, and waits for it; a second Ctrl-C doesn't wait."""
+    if sys.stdout.isatty():
+        say("")
     say("POST /drain: what it holds is sent, and each tenant's spans are counted")
     if ask(admin, "POST", "/drain")[0] != 200:
         say("it doesn't answer, and is ended")
