@@ -26,7 +26,7 @@ HERE = Path(__file__).resolve().parent.parent
 PAGES = ("README.md", *(f"docs/{name}.md" for name in ("OPERATING", "RUNBOOK", "SIZING", "HTTP", "SCRIPT")))
 # what isn't typed here, and why
 NOT_TYPED = {
-    r"make (serve|trace_collector|deb)\b": "proves; what it runs then is typed below, or built by tests/package.py",
+    r"make (preview|serve|trace_collector|deb)\b": "builds; what it runs then is typed below, or built by tests/package.py",
     r"sudo|trace_collector check /etc|journalctl |[\s\S]*@/usr/share/": "installed: tests/package.py, tests/booted.py",
     r"curl http://127.0.0.1:9464/tenants$": "of the unit: tests/booted.py",
     r"./trace_collector check my.toml \| diff before": "of the unit: tests/booted.py",
@@ -143,10 +143,10 @@ def by_standard_input(folder):
 
 
 def shown(folder):
-    """What `make serve` runs once it has built says what README.md says."""
-    block = re.search(r"^    \$ make serve\n((?:    .*\n)*)", (HERE / "README.md").read_text(), re.M)[1]
-    wanted = [line.strip().removesuffix(" ..") for line in block.splitlines() if not re.match(r"    (\[|\.\.)", line)]
-    check("lines of README.md", len(wanted) >= 3, True)
+    """What `make serve` runs after it has built has the requests that README.md shows under `make preview`."""
+    block = re.search(r"^    \$ make preview\n((?:    .*\n)*)", (HERE / "README.md").read_text(), re.M)[1]
+    wanted = [line.strip() for line in block.splitlines() if line.strip().startswith(("POST ", "back end at "))]
+    check("lines of README.md", len(wanted) >= 2, True)
     status, said = ran([sys.executable, "examples/serve.py"], folder)
     check("its status", status, 0)
     for line in wanted:

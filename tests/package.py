@@ -27,8 +27,7 @@ FILES = {"bin/trace_collector": 0o755, "share/man/man1/trace_collector.1": 0o644
          "share/doc/nimchaes/examples/alerts.yml": 0o644, "share/doc/nimchaes/examples/nginx.conf": 0o644,
          "share/doc/nimchaes/examples/collector-run": 0o755,
          **{f"share/doc/nimchaes/docs/{page}.md": 0o644 for page in (
-             "OPERATING", "ADMIN", "METRICS", "TROUBLE", "SIZING", "CONNECTING", "SCALING", "SETTINGS", "FAULTS", "HTTP",
-             "SCRIPT")},
+             "OPERATING", "RUNBOOK", "SIZING", "SETTINGS", "HTTP", "SCRIPT")},
          **{f"share/doc/nimchaes/docs/pictures/admin-{way}.png": 0o644 for way in ("light", "dark", "narrow")}}
 
 

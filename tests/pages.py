@@ -44,6 +44,7 @@ FENCE = re.compile(r"^(```|~~~)")
 DATE = re.compile(r"\b(19|20)\d\d-\d\d-\d\d\b|\b\d{1,2} (January|February|March|April|May|June|July|August|September|"
                   r"October|November|December) 20\d\d\b")
 FILE = re.compile(r"^(crates|tests|docs|examples|packaging|bench|\.ci)/[\w./-]+$")
+RUST = {"unsafe", "impl", "fn", "pub", "use", "let", "match", "ghost"}
 COMMANDS = ("make", "trace_collector", "./trace_collector", "python3", "curl", "git", "systemctl", "rt", "sudo", "taskset",
             "journalctl", "docker", "podman", "apt", "dpkg", "cat", "kill", "nginx", "post", "turn", "answer", "report",
             "drain", "add", "retire", "ulimit", "prlimit", "rate(", "sum(", "GET", "POST", "PUT", "DELETE", "rattle")
@@ -156,8 +157,8 @@ def unknown_names(page, text, code):
         for target in re.findall(r"(?:^|[;&|$`]\s*)(?:sudo )?make ([a-z][\w-]*)", line):
             if target not in code.targets:
                 yield number, f"there is no make target {target}"
-        if "trace_collector" in line or re.match(r"--[a-z]", line):
-            for option in re.findall(r"(?<![\w-])--[a-z][a-z-]+", line):
+        for command in re.findall(r"trace_collector (?:serve|replay|check)[^|;&#]*", line):
+            for option in re.findall(r"(?<![\w-])--[a-z][a-z-]+", command):
                 if option not in code.options:
                     yield number, f"there is no option {option}"
 
@@ -165,9 +166,10 @@ def unknown_names(page, text, code):
 def strange_messages(page, text, code):
     for number, span in spans(text):
         is_message = len(span.split()) >= 3 and re.match(r"[a-z]", span) and not re.search(r"[=<>{}|$]", span)
-        if not is_message or span.split()[0] in COMMANDS or span.startswith(COMMANDS):
+        first = span.split()[0]
+        if not is_message or first in RUST or "/" in first or span.startswith(COMMANDS):
             continue
-        pieces = [it.strip() for it in re.split(r"\.\.\.?|\b[A-Z][A-Z_]+\b|\d[\d,]*", span) if len(it.split()) >= 2]
+        pieces = [it.strip(" ,") for it in re.split(r"\.\.\.?|\b[A-Z][A-Z_]*\b|\d[\d,]*", span) if len(it.split()) >= 2]
         for piece in pieces:
             if piece not in code.text:
                 yield number, f"the message `{span}` stands nowhere in the code"
