@@ -1,0 +1,128 @@
+#!/usr/bin/env python3
+"""Runs the tests of crates, and scripts over the program, without proofs: `make try-test`.
+
+`rt try --test` compiles each crate of crates.txt that has tests, with checks of bounds, overflows and addresses, and runs
+them. tests/unproved.py builds the program so, and then the scripts that SCRIPTS names run over it unchanged. Two run at a
+time where there are two processors and 7 GB are free. Each prints a line as it ends: its name, how many tests or cases
+passed, and seconds. For one that fails the last lines of its output follow. The last line counts all. Ends with 1 where
+one failed. It proves nothing, and tries no must-fail edit and no service: `make test` does.
+"""
+import os
+import re
+import subprocess
+import sys
+import time
+from concurrent.futures import ThreadPoolExecutor, as_completed
+from dataclasses import dataclass
+from pathlib import Path
+
+import unproved
+from build import ROOT, below, lines_of
+
+PROGRAM = ROOT / "out/try/trace_collector"
+SCRIPTS = ("program.py", "stories.py", "random_scripts.py", "script_lines.py")
+TEST = re.compile(r"^\s*#\[test\]", re.M)
+TESTS = re.compile(r"^test result: \w+\. (\d+) passed; (\d+) failed", re.M)
+CASES = re.compile(r"(\d+) (?:stories|scripts of \d+ lines), (\d+) (?:failed|wrong)")
+# kB of free memory that two at a time need.
+MEMORY = 7_000_000
+MOST_SECONDS = 300
+LAST_LINES = 40
+
+
+@dataclass
+class Result:
+    name: str
+    passed: int
+    failed: int
+    seconds: float
+    said: str
+
+
+def with_tests():
+    """The crates of crates.txt that have tests, those with most crates below them first."""
+    _, uses = lines_of(ROOT)
+    sources = {name: (ROOT / "crates" / name / "src").rglob("*.rt") for name in uses}
+    found = [name for name, files in sources.items() if any(TEST.search(it.read_text()) for it in files)]
+    return sorted(found, key=lambda name: -len(below(name, uses)))
+
+
+def counted(said, status):
+    """How many tests or cases passed and failed. An output without counts is that of one test."""
+    tests, cases = TESTS.search(said), CASES.search(said)
+    if tests:
+        passed, failed = int(tests[1]), int(tests[2])
+    elif cases:
+        passed, failed = int(cases[1]) - int(cases[2]), int(cases[2])
+    else:
+        passed, failed = int(status == 0), 0
+    return passed, max(failed, int(status != 0))
+
+
+def run(name, words, folder):
+    start = time.monotonic()
+    done = subprocess.run(words, cwd=folder, stdin=subprocess.DEVNULL, stdout=subprocess.PIPE, stderr=subprocess.STDOUT,
+                          errors="replace", check=False)
+    return Result(name, *counted(done.stdout, done.returncode), time.monotonic() - start, done.stdout)
+
+
+def try_crate(name):
+    return run(name, ["rt", "try", "--test", "--seconds", str(MOST_SECONDS)], ROOT / "crates" / name)
+
+
+def build():
+    start, said = time.monotonic(), ""
+    try:
+        unproved.build(PROGRAM)
+    except SystemExit as fault:
+        said = str(fault)
+    return Result("trace_collector_program is built", 0, bool(said), time.monotonic() - start, said)
+
+
+def try_script(name, built):
+    """Runs the script once the program is built."""
+    if built.result().failed:
+        return Result(name, 0, 1, 0, "not run: the program was not built")
+    return run(name, [sys.executable, str(ROOT / "tests" / name), str(PROGRAM)], ROOT)
+
+
+def lanes():
+    """How many run at a time."""
+    available = int(re.search(r"MemAvailable:\s+(\d+)", Path("/proc/meminfo").read_text())[1])
+    return min(2, len(os.sched_getaffinity(0))) if available >= MEMORY else 1
+
+
+def show(result):
+    counts = [f"{result.passed} passed"] * (result.passed > 0) + [f"{result.failed} FAILED"] * (result.failed > 0)
+    print(f"{result.name}: {', '.join([*counts, f'{result.seconds:.0f} s'])}", flush=True)
+    if result.failed:
+        print("".join(f"    {line}\n" for line in result.said.splitlines()[-LAST_LINES:]), end="", flush=True)
+
+
+def results():
+    """Each result as it is there."""
+    with ThreadPoolExecutor(lanes()) as pool:
+        built = pool.submit(build)
+        crates = [pool.submit(try_crate, name) for name in with_tests()]
+        left = [built, *crates, *(pool.submit(try_script, name, built) for name in SCRIPTS)]
+        try:
+            yield from (it.result() for it in as_completed(left))
+        finally:
+            for it in left:
+                it.cancel()
+
+
+def main():
+    passed = failed = 0
+    for result in results():
+        show(result)
+        passed, failed = passed + result.passed, failed + result.failed
+    print(f"{passed} passed, {failed} failed")
+    return min(failed, 1)
+
+
+if __name__ == "__main__":
+    try:
+        sys.exit(main())
+    except KeyboardInterrupt:
+        sys.exit("make: broken off")
