@@ -1,16 +1,16 @@
-.PHONY: test replay serve install uninstall deb
+.PHONY: test try-test replay serve install uninstall deb
 
 PROGRAM = crates/trace_collector_program
 
 # A test of the program that the gate built. What it says is printed only where it fails.
 tried = said=$$(python3 tests/$(1) $(PROGRAM)/out/trace_collector_program $(2)) || { echo "$$said"; exit 1; }
 
-# The gate: what needs no toolchain, and then every crate and its tests proved, but for
-# what has passed on this machine as it stands, the edits that must be refused, the tests
-# and the programs; last what the program that was built there prints.
+# The gate: the checks of the text, then the proofs of all crates and tests, the edits that must be refused, the tests,
+# the programs, and the scripts over the built program. The cost of each crate goes to standard error.
 test: checks
 	@command -v rt > /dev/null || { echo 'make: there is no command rt: docs/OPERATING.md names the toolchain' >&2; exit 1; }
-	@rt ci
+	@python3 tests/costs.py record -- rt ci
+	@python3 tests/costs.py >&2
 	@$(call tried,program.py)
 	@$(call tried,stories.py)
 	@$(call tried,script_lines.py)
@@ -22,10 +22,13 @@ test: checks
 	@$(call tried,replay/steady.py,100000)
 	@$(call tried,replay/lives.py,2000)
 
-# Seconds, with Python alone: the definitions that docs/ quotes stand so in their
-# files, each public definition has its comment, want of memory is made only where
-# it is known to be, no value is forgotten, what derive writes is left to it, and no line
-# is too long.
+# Minutes: the tests of all crates, and scripts over the program, without proofs.
+try-test:
+	@command -v rt > /dev/null || { echo 'make: there is no command rt: docs/OPERATING.md names the toolchain' >&2; exit 1; }
+	@python3 tests/try_test.py
+
+# Checks the text in seconds, with Python alone: quoted definitions, comments of definitions, places that make an
+# allocation failure, values that are forgotten, traits written by hand, long lines, and the pages.
 .PHONY: checks
 checks:
 	@python3 tests/quotes.py
@@ -33,6 +36,7 @@ checks:
 	@python3 tests/forgotten.py
 	@python3 tests/by_hand.py
 	@python3 tests/widths.py
+	@python3 tests/pages.py
 
 # Builds the program, makes a script of a body that is stored as a file, which is posted
 # before a worker asks for a job twice, one millisecond too early and in time, and replays it.
