@@ -12,8 +12,8 @@ from refusals import ROOT, tokens_of
 TRAITS = {"PartialEq", "Eq", "PartialOrd", "Ord", "Hash", "Clone", "Default"}
 # the file under crates/, the type, its traits, and what says that they are right
 KNOWN = [
-    ("otlp_prepare/src/noted.rt", "SpanOrigin", {"PartialEq"}, "`same_origin`, of which `prepared_eq` is made"),
-    ("otlp_prepare/src/prepared.rt", "Prepared", {"PartialEq"}, "`prepared_eq` of its specs/Equal"),
+    ("prepared_body/src/noted.rt", "SpanOrigin", {"PartialEq"}, "`same_origin`, of which `prepared_eq` is made"),
+    ("prepared_body/src/prepared.rt", "Prepared", {"PartialEq"}, "`prepared_eq` of its specs/Equal"),
     ("otlp_trace/src/octets.rt", "Octets", {"Clone", "PartialEq", "Eq"}, "byte for byte, as of lists"),
     ("text_slice/src/text_slice.rt", "TextSlice", {"PartialEq", "Eq"}, "byte for byte, as of lists"),
     ("otlp_trace/src/repeated.rt", "Repeated", {"PartialEq", "Eq"}, "value for value, as of lists"),

@@ -6,10 +6,10 @@ use Rattle.span_pool.specs.Stored.{Origin as OriginData}
 use Rattle.tail_settings.specs.Policy.{PolicyData}
 use Rattle.tail_policy.specs.Note.{note_of}
 use Rattle.tenant_rules.specs.Arrivals.{Arrival, is_valid, trace_of}
-use Rattle.otlp_prepare.specs.declared.noted.NotedSpan.{NotedSpan}
-use Rattle.otlp_prepare.specs.Origin.{OriginTexts}
-use Rattle.otlp_prepare.specs.Arrivals.{no_origin, origin_at, first_at, origin_view, HasSameResource, AreGrouped, IsGrouped, arrival_with, arrival_in, arrivals_in}
-use Rattle.otlp_prepare.specs.Prepared.{IsReady, AreReady}
+use Rattle.prepared_body.specs.declared.noted.NotedSpan.{NotedSpan}
+use Rattle.prepared_body.specs.Origin.{OriginTexts}
+use Rattle.prepared_body.specs.Arrivals.{no_origin, origin_at, first_at, origin_view, HasSameResource, AreGrouped, IsGrouped, arrival_with, arrival_in, arrivals_in}
+use Rattle.prepared_body.specs.Prepared.{IsReady, AreReady}
 use Rattle.audit_log.specs.Origins.{around, HasItsResource}
 
 around_at : (copies origins : List OriginTexts) → map around copies ≡ map around origins → (i : ℕ) → around (slice_index_or copies i no_origin) ≡ around (slice_index_or origins i no_origin)

@@ -2,10 +2,10 @@
 use Rattle.std.proofs.Common.{◌≡◌, ℕ, ◌≤◌, List, length, map, flat_map, ap, ◌∙◌, sym, subst, arith}
 use Rattle.tail_settings.specs.Policy.{PolicyData}
 use Rattle.tenant_rules.specs.Arrivals.{Arrival}
-use Rattle.otlp_prepare.specs.declared.noted.NotedSpan.{NotedSpan}
-use Rattle.otlp_prepare.specs.Origin.{OriginTexts}
-use Rattle.otlp_prepare.specs.Arrivals.{AreGrouped, arrivals_in}
-use Rattle.otlp_prepare.specs.Prepared.{PreparedData, AreReady}
+use Rattle.prepared_body.specs.declared.noted.NotedSpan.{NotedSpan}
+use Rattle.prepared_body.specs.Origin.{OriginTexts}
+use Rattle.prepared_body.specs.Arrivals.{AreGrouped, arrivals_in}
+use Rattle.prepared_body.specs.Prepared.{PreparedData, AreReady}
 use Rattle.audit_log.specs.declared.body.PackedSpan.{PackedSpan}
 use Rattle.audit_log.specs.Bodies.{without_text, spans_from, texts_size}
 use Rattle.audit_log.specs.Origins.{around}

@@ -1,6 +1,6 @@
 -- Prepared bodies whose spans' texts are kept as one. This project's own rule.
 use Rattle.std.specs.Prelude.{ℕ, ◌+◌, List, [], ◌∷◌, take, drop, length}
-use Rattle.otlp_prepare.specs.declared.noted.NotedSpan.{NotedSpan}
+use Rattle.prepared_body.specs.declared.noted.NotedSpan.{NotedSpan}
 use Rattle.audit_log.specs.declared.body.PackedSpan.{PackedSpan}
 
 -- a span but for its text, of which the length is kept

@@ -1,7 +1,7 @@
 -- Entries of a shard's log, however they are kept. This project's own rule.
 use Rattle.std.specs.Prelude.{ℕ, List}
 use Rattle.std.specs.Arc.{arc_value}
-use Rattle.otlp_prepare.specs.Prepared.{PreparedData}
+use Rattle.prepared_body.specs.Prepared.{PreparedData}
 use Rattle.machine_hub.specs.Runs.{entry}
 use Rattle.shard_machine.specs.Run.{Logged}
 use Rattle.shard_machine.specs.declared.step.WordSource.{WordSource}

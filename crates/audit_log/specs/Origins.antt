@@ -1,8 +1,8 @@
 -- What stands round spans, however it is kept. This project's own rule.
 use Rattle.std.specs.Prelude.{◌<◌, ℕ, List, length}
 use Rattle.span_pool.specs.Stored.{Origin as OriginData}
-use Rattle.otlp_prepare.specs.Origin.{OriginTexts}
-use Rattle.otlp_prepare.specs.Arrivals.{origin_view, origin_at, HasSameResource}
+use Rattle.prepared_body.specs.Origin.{OriginTexts}
+use Rattle.prepared_body.specs.Arrivals.{origin_view, origin_at, HasSameResource}
 
 -- the first origin of the same resource spans, and the texts, whether a URL that is empty is there or missing
 abbrev pub around : OriginTexts → ℕ × OriginData

@@ -2,12 +2,12 @@
 
 ghost use Rattle.std.specs.Prelude.{◌≡◌, ◌≤◌, length, map, IfOk};
 ghost use Rattle.std.specs.List.{flat_map};
-ghost use Rattle.otlp_prepare.specs.declared.noted.NotedSpan.{NotedSpan};
+ghost use Rattle.prepared_body.specs.declared.noted.NotedSpan.{NotedSpan};
 ghost use Rattle.audit_log.specs.Bodies.{without_text, spans_from, texts_size};
 
 use crate::origins::{copies_of, shared};
-use otlp_prepare::{NotedSpan, Prepared, SpanOrigin};
 use packed_text::PackedText;
+use prepared_body::{NotedSpan, Prepared, SpanOrigin};
 use std::alloc::{AllocError, Global};
 use std::marker::Model;
 use std::sync::ArcSlice;
@@ -42,8 +42,8 @@ impl Model for PackedBody {
     ghost use Rattle.std.specs.Prelude.{◌≤◌, length, map};
     ghost use Rattle.std.specs.Arc.{arc_slice_items};
     ghost use Rattle.tail_settings.specs.Policy.{policy_view};
-    ghost use Rattle.otlp_prepare.specs.Arrivals.{arrivals_in, AreGrouped};
-    ghost use Rattle.otlp_prepare.specs.Prepared.{PreparedData, AreReady};
+    ghost use Rattle.prepared_body.specs.Arrivals.{arrivals_in, AreGrouped};
+    ghost use Rattle.prepared_body.specs.Prepared.{PreparedData, AreReady};
     ghost use Rattle.audit_log.specs.Bodies.{spans_from, texts_size};
 
     ghost Value = { PreparedData };

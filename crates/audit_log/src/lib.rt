@@ -5,7 +5,7 @@
 //! [`PackedEntry`] keeps these texts packed (`packed_text`), and what stands round spans in copies, so that no body
 //! stays for it. It is seen as the entry that it was made of, and gives that again.
 //!
-//! It stands on `packed_text`, on `otlp_prepare` for bodies, on `shard_machine` and `tenant_shard` for steps and what
+//! It stands on `packed_text`, on `prepared_body` for bodies, on `shard_machine` and `tenant_shard` for steps and what
 //! they give, on `machine_hub` for entries, and on the kit's `bytes`. The rules are this project's own.
 #![tactic(auto)]
 

@@ -2,10 +2,10 @@
 
 ghost use Rattle.std.specs.Prelude.{◌≡◌, ◌<◌, length, map, IfOk, option_copied};
 ghost use Rattle.span_pool.specs.Stored.{bytes_of};
-ghost use Rattle.otlp_prepare.specs.Arrivals.{origin_view, origin_at, AreGrouped};
+ghost use Rattle.prepared_body.specs.Arrivals.{origin_view, origin_at, AreGrouped};
 ghost use Rattle.audit_log.specs.Origins.{around, HasItsResource};
 
-use otlp_prepare::SpanOrigin;
+use prepared_body::SpanOrigin;
 use std::alloc::{AllocError, Global};
 use text_pool::SharedBytes;
 use text_slice::TextSlice;

@@ -5,7 +5,7 @@ use Rattle.tail_settings.specs.Section.{SectionData}
 use Rattle.tenant_rules.specs.declared.reply.StepReply.TheVariants as replies
 use Rattle.tenant_rules.specs.Own as own
 use Rattle.collector_tests.specs.Parts.{keep_all, plain as one_second, two_seconds, span, body}
-use Rattle.otlp_prepare.specs.Prepared.{PreparedData}
+use Rattle.prepared_body.specs.Prepared.{PreparedData}
 use Rattle.tenant_shard.specs.declared.step.Step.{Step}
 use Rattle.tenant_shard.specs.declared.step.Step.TheVariants.{Post, Turn}
 use Rattle.tenant_shard.specs.declared.step.Outcome.{Outcome}

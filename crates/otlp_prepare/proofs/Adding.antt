@@ -12,8 +12,8 @@ use Rattle.span_pool.specs.Stored.{Origin as OriginData, bytes_of}
 use Rattle.tail_settings.specs.Policy.{PolicyData}
 use Rattle.tail_policy.specs.declared.note.ResourceBits.{ResourceBits}
 use Rattle.tenant_rules.specs.Arrivals.{Arrival, is_valid}
-use Rattle.otlp_prepare.specs.Origin.{OriginTexts}
-use Rattle.otlp_prepare.specs.Arrivals.{origin_view, no_origin, origin_at, arrival_with}
+use Rattle.prepared_body.specs.Origin.{OriginTexts}
+use Rattle.prepared_body.specs.Arrivals.{origin_view, no_origin, origin_at, arrival_with}
 use Rattle.otlp_prepare.specs.BodySpans.{UnnotedSpanData, part_with, part_arrival, part_arrivals, bits_in, IsFound, AreFound, Adds, AddsAround, IsValidRead, IsAround, arrivals_in_scope, arrivals_in_resource, arrivals_around}
 use Rattle.otlp_prepare.proofs.Lists.{every_append}
 use Rattle.otlp_prepare.proofs.Read.{AllTold, told}

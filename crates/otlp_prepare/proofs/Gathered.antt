@@ -9,7 +9,7 @@ use Rattle.otlp_parts.specs.Parts.{resource_parts_view}
 use Rattle.otlp_parts.specs.Texts.{ResourceTexts}
 use Rattle.tail_settings.specs.Policy.{PolicyData}
 use Rattle.tenant_rules.specs.Arrivals.{Arrival}
-use Rattle.otlp_prepare.specs.Origin.{OriginTexts}
+use Rattle.prepared_body.specs.Origin.{OriginTexts}
 use Rattle.otlp_prepare.specs.BodySpans.{UnnotedSpanData, part_arrivals, AreFound, Adds, IsGroupRead, arrivals_in_resource}
 use Rattle.otlp_prepare.proofs.Lists.{every_front, every_back}
 

@@ -4,8 +4,8 @@ use Rattle.std.proofs.lemmas.Bool.Decides.{nat_tests}
 use Rattle.std.proofs.lemmas.List.{get_or_append_left, length-append}
 use Rattle.std.proofs.Math.Seq.{get_or-append_seam}
 use Rattle.span_pool.specs.Stored.{Origin as OriginData, bytes_of}
-use Rattle.otlp_prepare.specs.Origin.{OriginTexts}
-use Rattle.otlp_prepare.specs.Arrivals.{origin_view, no_origin, origin_at, first_at, HasSameResource, AreGrouped, IsGrouped}
+use Rattle.prepared_body.specs.Origin.{OriginTexts}
+use Rattle.prepared_body.specs.Arrivals.{origin_view, no_origin, origin_at, first_at, HasSameResource, AreGrouped, IsGrouped}
 use Rattle.otlp_prepare.specs.BodySpans.{IsGroupOf, KeepsGroup, KeepsGrouped}
 
 -- ---- the same resource

@@ -10,10 +10,10 @@ use Rattle.tail_policy.specs.Apart.{notes_of_texts}
 use Rattle.tail_policy.specs.Note.{note_of}
 use Rattle.tail_policy.specs.Parts.{resource_bits_of, with_resource, by_parts}
 use Rattle.tenant_rules.specs.Arrivals.{Arrival}
-use Rattle.otlp_prepare.specs.Origin.{OriginTexts}
-use Rattle.otlp_prepare.specs.declared.noted.NotedSpan.{NotedSpan}
-use Rattle.otlp_prepare.specs.Arrivals.{origin_at, arrivals_in, AreGrouped}
-use Rattle.otlp_prepare.specs.Prepared.{IsReady, AreReady}
+use Rattle.prepared_body.specs.Origin.{OriginTexts}
+use Rattle.prepared_body.specs.declared.noted.NotedSpan.{NotedSpan}
+use Rattle.prepared_body.specs.Arrivals.{origin_at, arrivals_in, AreGrouped}
+use Rattle.prepared_body.specs.Prepared.{IsReady, AreReady}
 use Rattle.otlp_prepare.specs.BodySpans.{UnnotedSpanData, part_arrival, part_arrivals, own_note, with_note, noted, IsFound, AreFound}
 use Rattle.otlp_prepare.proofs.Grouped.{is_grouped}
 use Rattle.otlp_prepare.proofs.Lists.{every_mapped}

@@ -1,5 +1,4 @@
 mod Lists
-pub mod Equals
 mod Read
 mod Empty
 mod Adding

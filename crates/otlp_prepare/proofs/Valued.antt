@@ -12,10 +12,12 @@ use Rattle.span_pool.specs.Stored.{Origin as OriginData}
 use Rattle.tail_settings.specs.Policy.{PolicyData}
 use Rattle.tail_settings.specs.Section.{SectionData}
 use Rattle.tenant_rules.specs.Arrivals.{Arrival}
-use Rattle.otlp_prepare.specs.Origin.{OriginTexts}
-use Rattle.otlp_prepare.specs.declared.noted.NotedSpan.{NotedSpan}
-use Rattle.otlp_prepare.specs.Arrivals.{origin_of, arrival_of, arrival_with, arrivals_of_scope, arrivals_of_resource, arrivals_of, arrivals_in}
-use Rattle.otlp_prepare.specs.Prepared.{PreparedData, prepared_of}
+use Rattle.prepared_body.specs.Origin.{OriginTexts}
+use Rattle.prepared_body.specs.declared.noted.NotedSpan.{NotedSpan}
+use Rattle.prepared_body.specs.Arrivals.{arrival_with, arrivals_in}
+use Rattle.otlp_prepare.specs.Arrivals.{origin_of, arrival_of, arrivals_of_scope, arrivals_of_resource, arrivals_of}
+use Rattle.prepared_body.specs.Prepared.{PreparedData}
+use Rattle.otlp_prepare.specs.Prepared.{prepared_of}
 use Rattle.otlp_prepare.specs.BodySpans.{origin_in, arrivals_in_scope, arrivals_in_resource, arrivals_in_body, UnnotedSpanData, part_arrivals, noted, AreFound, IsSpanRead, IsValidRead, IsResourceRead, IsScopeRead, IsGroupRead, AreRead}
 use Rattle.otlp_prepare.proofs.Lists.{every_append, every_front, every_back, every_filtered, every_passed}
 use Rattle.otlp_prepare.proofs.Read.{AllTold, told}

@@ -18,9 +18,9 @@ use Rattle.tail_policy.specs.declared.note.TraceNote.{TraceNote}
 use Rattle.tail_policy.specs.Note.{note_of}
 use Rattle.tail_policy.specs.Parts.{resource_bits_of, with_resource}
 use Rattle.tenant_rules.specs.Arrivals.{Arrival, is_valid}
-use Rattle.otlp_prepare.specs.Origin.{OriginTexts}
-use Rattle.otlp_prepare.specs.declared.noted.NotedSpan.{NotedSpan}
-use Rattle.otlp_prepare.specs.Arrivals.{arrival_with, origin_at, AreGrouped}
+use Rattle.prepared_body.specs.Origin.{OriginTexts}
+use Rattle.prepared_body.specs.declared.noted.NotedSpan.{NotedSpan}
+use Rattle.prepared_body.specs.Arrivals.{arrival_with, origin_at, AreGrouped}
 
 -- ---- a body by its texts
 

@@ -1,5 +1,3 @@
-pub mod Origin
 pub mod Arrivals
 pub mod Prepared
-pub mod Equal
 pub mod BodySpans

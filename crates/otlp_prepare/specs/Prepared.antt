@@ -1,28 +1,15 @@
 -- A body that was read, for a tenant with its section. This project's own rule.
-use Rattle.std.specs.Prelude.{◌≡◌, ◌<◌, ◌^◌, ℕ, true, List, length, Result, IfErr, MatchResult}
-use Rattle.std.specs.List.{AllByRecursion}
+use Rattle.std.specs.Prelude.{◌≡◌, ℕ, List, Result, IfErr, MatchResult}
 use Rattle.otlp_trace.specs.Data.{RequestData}
 use Rattle.otlp_read.specs.Value.{IsValue, IsFault}
 use Rattle.otlp_read.specs.declared.fault.ReadFault.{ReadFault}
 use Rattle.otlp_read.specs.declared.fault.ReadFault.TheVariants as faults
 use Rattle.otlp_parts.specs.Texts.{invalid_in}
-use Rattle.tail_settings.specs.Policy.{PolicyData}
 use Rattle.tail_settings.specs.Section.{SectionData}
-use Rattle.tail_policy.specs.Note.{note_of}
-use Rattle.tenant_rules.specs.Arrivals.{Arrival, is_valid, trace_of}
-use Rattle.otlp_prepare.specs.Origin.{OriginTexts}
-use Rattle.otlp_prepare.specs.declared.noted.NotedSpan.{NotedSpan}
+use Rattle.prepared_body.specs.Prepared.{PreparedData}
 use Rattle.otlp_prepare.specs.declared.refusal.Refusal.{Refusal}
 use Rattle.otlp_prepare.specs.declared.refusal.Refusal.TheVariants as refusal
-use Rattle.otlp_prepare.specs.Arrivals.{arrivals_of, arrival_in, IsGrouped}
-
--- a body that was read: whose it is, the policies that its tenant had then, its valid spans, and how many of its spans
--- aren't valid. The notes of its spans follow from it
-pub record PreparedData : Type 0 where
-  pub tenant : ℕ
-  pub policies : List PolicyData
-  pub arrivals : List Arrival
-  pub invalid : ℕ
+use Rattle.otlp_prepare.specs.Arrivals.{arrivals_of}
 
 -- what a request is made ready as, for the tenant of this number and section
 abbrev pub prepared_of : ℕ → SectionData → RequestData → PreparedData
@@ -47,20 +34,6 @@ PreparesValue tenant section body result = (v : RequestData) → IsValue body v
 abbrev pub NamesFault : List ℕ → Result PreparedData Refusal → Type 0
 NamesFault body result =
     (fault : ReadFault) → IfErr result (λ refused. refused ≡ refusal.Bad fault → IsFault body fault)
-
--- a span is valid, its origin is one of these, with the resource of the others of its resource spans, and its note is
--- that of the span with its resource for these policies
-pub record IsReady (policies : List PolicyData) (origins : List OriginTexts) (span : NotedSpan) : Type 0 where
-  pub note : span.note ≡ note_of policies (arrival_in origins span).facts
-  pub trace : span.trace ≡ trace_of (arrival_in origins span)
-  pub valid : is_valid (arrival_in origins span) ≡ true
-  pub within : span.origin < length origins
-  pub grouped : IsGrouped origins span.origin
-  pub short : length span.text < 2 ^ 64
-
--- each of them is
-abbrev pub AreReady : List PolicyData → List OriginTexts → List NotedSpan → Type 0
-AreReady policies origins spans = AllByRecursion (IsReady policies origins) spans
 
 -- want of memory says nothing of the body
 abbrev pub refusal_of : ReadFault → Refusal

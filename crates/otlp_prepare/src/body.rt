@@ -16,12 +16,12 @@ ghost use Rattle.otlp_prepare.specs.Prepared.{IsPrepared, PreparesValue, NamesFa
 
 use crate::body_spans::found_in;
 use crate::notes::noted_in;
-use crate::prepared::Prepared;
 use crate::recent::RecentTexts;
 use crate::refusal::Refusal;
 use bytes::Bytes;
 use otlp_parts::{BodyParts, read_parts};
 use otlp_read::{ReadFault, values_are_sound};
+use prepared_body::Prepared;
 use span_pool::read_spans_are_viewed;
 use std::alloc::{AllocError, Global};
 use std::thread::Threads;

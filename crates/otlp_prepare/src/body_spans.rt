@@ -5,14 +5,14 @@ ghost use Rattle.std.specs.List.{AllByRecursion, flat_map};
 ghost use Rattle.otlp_read.specs.RoundTrip.{IsShort};
 ghost use Rattle.otlp_parts.specs.Parts.{body_parts_view, resource_parts_view, scope_parts_view, scopes_in, spans_in};
 ghost use Rattle.span_pool.specs.Stored.{bytes_of};
-ghost use Rattle.otlp_prepare.specs.Arrivals.{origin_view, AreGrouped};
+ghost use Rattle.prepared_body.specs.Arrivals.{origin_view, AreGrouped};
 ghost use Rattle.otlp_prepare.specs.BodySpans.{IsValidRead, IsScopeRead, IsResourceRead, IsGroupRead, AreRead, IsAround, part_with, AreFound, Adds, part_arrivals, arrivals_in_resource, arrivals_in_body, AddsAround, arrivals_around, arrivals_around_all, KeepsGroup, KeepsGrouped};
 
-use crate::noted::SpanOrigin;
 use crate::recent::RecentTexts;
 use crate::reversed::first_of;
 use crate::unnoted::UnnotedSpan;
 use otlp_parts::{BodyParts, PartText, ResourceParts, ScopeList, ScopeParts, SpanTexts};
+use prepared_body::SpanOrigin;
 use span_pool::read_spans_are_viewed;
 use std::alloc::{AllocError, Global};
 use tail_policy::{PolicyByParts, ResourceBits, TenantPolicies, views_of_parts};

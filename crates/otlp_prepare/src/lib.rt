@@ -8,25 +8,22 @@
 //!
 //! A [`Prepared`] keeps a span as a [`NotedSpan`], its own text with the index of an [`SpanOrigin`]: the texts of its
 //! resource, its scope and their schemas, each with its digest (`text_pool`), once for all spans of one scope of one
-//! resource. Spans that aren't valid are counted, and nothing is kept of them.
+//! resource. Spans that aren't valid are counted, and nothing is kept of them. These types are `prepared_body`'s.
 //!
-//! It stands on `otlp_parts`, `span_pool`, `text_pool`, `text_slice`, `tail_settings`, `tail_policy` and `tail_notes`
-//! and those below them, on `tenant_rules` for what arrives of a span, and on the kit's `bytes`. The rules are those of
-//! OTLP 1.x and of the OpenTelemetry Collector's `tail_sampling` processor.
+//! It stands on `prepared_body` and `otlp_parts`, on `span_pool`, `text_pool`, `text_slice`, `tail_settings`,
+//! `tail_policy` and `tail_notes` and those below them, on `tenant_rules` for what arrives of a span, and on the kit's
+//! `bytes`. The rules are those of OTLP 1.x and of the OpenTelemetry Collector's `tail_sampling` processor.
 #![tactic(auto)]
 
 mod body;
 mod body_spans;
-mod noted;
 mod notes;
-mod prepared;
 mod recent;
 mod refusal;
 mod reversed;
 mod unnoted;
 
 pub use body::{prepare, prepare_next};
-pub use noted::{NotedSpan, SpanOrigin};
-pub use prepared::{Prepared, equal_bodies_are_the_same};
+pub use prepared_body::{NotedSpan, Prepared, SpanOrigin, equal_bodies_are_the_same};
 pub use recent::RecentTexts;
 pub use refusal::Refusal;

@@ -5,9 +5,9 @@ ghost use Rattle.span_view.specs.Reading.{facts_of};
 ghost use Rattle.tail_settings.specs.Policy.{PolicyData};
 ghost use Rattle.otlp_prepare.specs.BodySpans.{own_note, noted};
 
-use crate::noted::NotedSpan;
 use crate::reversed::{AT_A_TIME, first_of};
 use crate::unnoted::UnnotedSpan;
+use prepared_body::NotedSpan;
 use span_view::SpanRef;
 use std::alloc::{AllocError, Global};
 use std::thread::Threads;

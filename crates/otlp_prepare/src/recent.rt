@@ -1,6 +1,6 @@
 //! Texts that the next body may have again.
 
-use crate::noted::SpanOrigin;
+use prepared_body::SpanOrigin;
 use std::alloc::Global;
 
 /// The longest text that is remembered, in bytes. Those of the resources and scopes of most senders are shorter.

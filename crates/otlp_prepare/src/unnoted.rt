@@ -6,7 +6,7 @@ ghost use Rattle.span_view.specs.Facts.{AreText};
 ghost use Rattle.span_view.specs.Reading.{facts_of};
 ghost use Rattle.otlp_prepare.specs.BodySpans.{IsValidRead, part_with, with_note};
 
-use crate::noted::NotedSpan;
+use prepared_body::NotedSpan;
 use span_pool::read_spans_are_viewed;
 use span_view::SpanRef;
 use std::marker::Model;

@@ -21,9 +21,9 @@ use Rattle.tenant_stores.proofs.Parts.{all_released-append}
 use Rattle.tenant_rules.specs.Arrivals.{Arrival, trace_of}
 use Rattle.tenant_rules.specs.State.{State}
 use Rattle.tenant_rules.specs.Machine.{come, counted_in, goes}
-use Rattle.otlp_prepare.specs.Arrivals as prepared
-use Rattle.otlp_prepare.specs.Origin.{OriginTexts}
-use Rattle.otlp_prepare.specs.declared.noted.NotedSpan.{NotedSpan}
+use Rattle.prepared_body.specs.Arrivals as prepared
+use Rattle.prepared_body.specs.Origin.{OriginTexts}
+use Rattle.prepared_body.specs.declared.noted.NotedSpan.{NotedSpan}
 use Rattle.tenant_pipeline.specs.declared.journal.Journal.{Journal}
 use Rattle.tenant_pipeline.specs.declared.pipeline.Pipeline.{Pipeline}
 use Rattle.tenant_pipeline.specs.declared.post.HeldOrigins.{HeldOrigins}

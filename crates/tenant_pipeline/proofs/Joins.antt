@@ -23,7 +23,7 @@ use Rattle.tenant_rules.specs.Machine.{has_row, joined, joins, counted_in}
 use Rattle.tenant_rules.specs.State.{State}
 use Rattle.tenant_pipeline.specs.declared.pipeline.Pipeline.{Pipeline}
 use Rattle.tenant_pipeline.specs.declared.journal.Journal.{Journal}
-use Rattle.otlp_prepare.specs.declared.noted.NotedSpan.{NotedSpan}
+use Rattle.prepared_body.specs.declared.noted.NotedSpan.{NotedSpan}
 use Rattle.tenant_pipeline.specs.declared.undo.Undo.{Undo}
 use Rattle.tenant_pipeline.specs.StateIn.{arrival_of, waiting_of, counts_in, policies_of, state_by, written_state_of, view_in}
 use Rattle.tenant_pipeline.specs.Invariant.{IsNoted, PipelineInvariantAt}

@@ -31,7 +31,7 @@ use Rattle.tenant_rules.specs.State.{State}
 use Rattle.tenant_pipeline.specs.declared.pipeline.Pipeline.{Pipeline}
 use Rattle.tenant_pipeline.specs.declared.pipeline.RowCounts.{RowCounts}
 use Rattle.tenant_pipeline.specs.declared.journal.Journal.{Journal}
-use Rattle.otlp_prepare.specs.declared.noted.NotedSpan.{NotedSpan}
+use Rattle.prepared_body.specs.declared.noted.NotedSpan.{NotedSpan}
 use Rattle.tenant_pipeline.specs.declared.undo.Undo.{Undo}
 use Rattle.tenant_pipeline.specs.StateIn.{arrival_of, arrivals_of, settled_of, waiting_of, counts_in, policies_of, state_by, written_state_of}
 use Rattle.tenant_pipeline.specs.Invariant.{IsNoted, PipelineInvariantAt}

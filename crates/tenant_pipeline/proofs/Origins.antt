@@ -16,8 +16,8 @@ use Rattle.tenant_stores.specs.View.{text_keys, view}
 use Rattle.tenant_stores.proofs.Held.{four_parts}
 use Rattle.tenant_stores.proofs.Lists.{count-append, count-self}
 use Rattle.tenant_stores.proofs.Parts.{all_released-append, part_by}
-use Rattle.otlp_prepare.specs.Arrivals as prepared
-use Rattle.otlp_prepare.specs.Origin.{OriginTexts}
+use Rattle.prepared_body.specs.Arrivals as prepared
+use Rattle.prepared_body.specs.Origin.{OriginTexts}
 use Rattle.tenant_stores.specs.HeldTexts.{origin_in}
 use Rattle.tenant_pipeline.specs.declared.post.HeldOrigins.{HeldOrigins}
 use Rattle.tenant_pipeline.specs.Posts.{all_keys, all_text_keys, held_keys, keys_at, keys_if, place_of, AreHeldAt, IsLike, IsPlaceLike}

@@ -21,11 +21,11 @@ use Rattle.tenant_rules.specs.Limits.{IsWithinLimits}
 use Rattle.tenant_rules.specs.Machine.{come, all_come, posted}
 use Rattle.tenant_rules.specs.State.{State}
 use Rattle.tenant_rules.specs.Sum.{IsCounted}
-use Rattle.otlp_prepare.specs.Arrivals.{arrivals_in}
-use Rattle.otlp_prepare.specs.Arrivals as prepared
-use Rattle.otlp_prepare.specs.Prepared.{IsReady, AreReady}
-use Rattle.otlp_prepare.specs.declared.noted.NotedSpan.{NotedSpan}
-use Rattle.otlp_prepare.specs.Origin.{OriginTexts}
+use Rattle.prepared_body.specs.Arrivals.{arrivals_in}
+use Rattle.prepared_body.specs.Arrivals as prepared
+use Rattle.prepared_body.specs.Prepared.{IsReady, AreReady}
+use Rattle.prepared_body.specs.declared.noted.NotedSpan.{NotedSpan}
+use Rattle.prepared_body.specs.Origin.{OriginTexts}
 use Rattle.tenant_pipeline.specs.declared.journal.Journal.{Journal}
 use Rattle.tenant_pipeline.specs.declared.pipeline.Pipeline.{Pipeline}
 use Rattle.tenant_pipeline.specs.declared.post.HeldOrigins.{HeldOrigins}

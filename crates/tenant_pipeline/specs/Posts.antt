@@ -31,10 +31,10 @@ use Rattle.tenant_pipeline.specs.declared.place.LastRow.{LastRow}
 use Rattle.tenant_pipeline.specs.declared.place.TraceState.{TraceState}
 use Rattle.tenant_pipeline.specs.declared.place.TraceState.TheVariants as states
 use Rattle.tenant_pipeline.specs.declared.post.HeldOrigins.{HeldOrigins}
-use Rattle.otlp_prepare.specs.Arrivals as prepared
-use Rattle.otlp_prepare.specs.Origin.{OriginTexts}
-use Rattle.otlp_prepare.specs.Prepared.{IsReady}
-use Rattle.otlp_prepare.specs.declared.noted.NotedSpan.{NotedSpan}
+use Rattle.prepared_body.specs.Arrivals as prepared
+use Rattle.prepared_body.specs.Origin.{OriginTexts}
+use Rattle.prepared_body.specs.Prepared.{IsReady}
+use Rattle.prepared_body.specs.declared.noted.NotedSpan.{NotedSpan}
 use Rattle.tenant_stores.specs.Shows.{AreAmong}
 use Rattle.tenant_pipeline.specs.StateIn.{arrival_of, part_in, policies_of, written_state_of}
 use Rattle.tenant_pipeline.specs.Invariant.{PipelineInvariantAt}

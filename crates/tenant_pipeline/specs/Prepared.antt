@@ -3,7 +3,7 @@ use Rattle.std.specs.Prelude.{◌++◌, ℕ, List, [], None, replicate}
 use Rattle.span_view.specs.Reading.{facts_of}
 use Rattle.tenant_rules.specs.Arrivals.{Arrival}
 use Rattle.tenant_rules.specs.Own.{Own, Post}
-use Rattle.otlp_prepare.specs.Prepared.{PreparedData}
+use Rattle.prepared_body.specs.Prepared.{PreparedData}
 
 -- a span without ids
 abbrev pub invalid_arrival : Arrival

@@ -20,7 +20,7 @@
 //! nothing else has changed that the rules see. What a tenant is told afterwards follows from that state.
 //!
 //! It stands on `tenant_rules`, `tenant_stores`, `span_batcher`, `send_queue`, `drop_ledger`, `decision_cache`,
-//! `otlp_prepare`, `tail_policy` and `tail_settings`, and on the crates that write OTLP.
+//! `prepared_body`, `tail_policy` and `tail_settings`, and on the crates that write OTLP.
 #![tactic(auto)]
 
 mod drain;

@@ -22,7 +22,7 @@ ghost use Rattle.tenant_stores.specs.HeldTexts.{origin_in};
 use crate::journal::Journal;
 use crate::pipeline::Pipeline;
 use drop_ledger::Place;
-use otlp_prepare::NotedSpan;
+use prepared_body::NotedSpan;
 use span_pool::{SharedKeys, StoredSpan, TextKeys};
 use std::alloc::{AllocError, Global};
 use tail_policy::TraceNote;

@@ -15,7 +15,7 @@ ghost use Rattle.tenant_pipeline.specs.OwnStep.{own_step_of, IsMadeFor};
 ghost use Rattle.tenant_pipeline.specs.Steps.{Answers, FollowsFromState, TakesNone, asks_none};
 
 use crate::pipeline::{LATEST_MOMENT, Pipeline};
-use otlp_prepare::Prepared;
+use prepared_body::Prepared;
 use send_retry::Answer;
 use std::alloc::AllocError;
 use tail_policy::TraceNote;

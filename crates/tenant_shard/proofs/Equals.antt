@@ -2,7 +2,7 @@
 use Rattle.std.proofs.Common.{◌≡◌, ◌==◌, ◌&&◌, ℕ, true, refl}
 use Rattle.std.specs.Prelude.{◌↔◌}
 use Rattle.std.proofs.lemmas.Bool.{and_parts, eq-eqb, eqb-true}
-use Rattle.otlp_prepare.specs.Prepared.{PreparedData}
+use Rattle.prepared_body.specs.Prepared.{PreparedData}
 use Rattle.send_retry.specs.contracts.answer.AnswerPartialEq.TheImpl as answer_equal
 use Rattle.send_retry.proofs.Equals.{answers_equal}
 use Rattle.tail_settings.specs.contracts.section.SectionPartialEq.TheImpl as section_equal

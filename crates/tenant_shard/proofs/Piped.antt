@@ -2,8 +2,8 @@
 use Rattle.std.proofs.Common.{◌≡◌, ℕ, List, Some, refl, sym, ap, ◌∙◌, Bool, true, false}
 use Rattle.std.specs.Prelude.{Decides}
 use Rattle.tail_settings.specs.Section.{SectionData}
-use Rattle.otlp_prepare.specs.Equal.{same_policies}
-use Rattle.otlp_prepare.proofs.Equals.{same_policies_decides}
+use Rattle.prepared_body.specs.Equal.{same_policies}
+use Rattle.prepared_body.proofs.Equals.{same_policies_decides}
 use Rattle.tenant_rules.specs.declared.reply.StepReply.{StepReply}
 use Rattle.tenant_rules.specs.declared.reply.StepReply.TheVariants as replies
 use Rattle.tenant_rules.specs.Own.{Own, Retire}

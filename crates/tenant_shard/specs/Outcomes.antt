@@ -7,8 +7,8 @@ use Rattle.tenant_rules.specs.declared.reply.StepReply.{StepReply}
 use Rattle.tenant_rules.specs.declared.reply.StepReply.TheVariants as replies
 use Rattle.tenant_rules.specs.Own.{Own}
 use Rattle.tenant_rules.specs.Own as own
-use Rattle.otlp_prepare.specs.Equal.{same_policies}
-use Rattle.otlp_prepare.specs.Prepared.{PreparedData}
+use Rattle.prepared_body.specs.Equal.{same_policies}
+use Rattle.prepared_body.specs.Prepared.{PreparedData}
 use Rattle.tenant_pipeline.specs.declared.step.OwnStep.{OwnStep as PipelineStep}
 use Rattle.tenant_pipeline.specs.OwnStep.{own_step_of, made_for}
 use Rattle.tenant_pipeline.specs.Prepared.{post_of}

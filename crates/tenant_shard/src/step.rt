@@ -4,8 +4,8 @@ ghost use Rattle.std.specs.Prelude.{◌≡◌, ◌↔◌, true};
 ghost use Rattle.tenant_shard.specs.Equal.{AreSame};
 
 use bytes::Bytes;
-use otlp_prepare::{Prepared, equal_bodies_are_the_same};
 use otlp_trace::Octets;
+use prepared_body::{Prepared, equal_bodies_are_the_same};
 use send_retry::Answer;
 use tail_settings::Section;
 use tenant_rules::Reply;

@@ -9,7 +9,8 @@ use Rattle.tail_settings.specs.Section.{SectionData}
 use Rattle.tail_settings.specs.Settings.{SettingsData, settings_view, section_at, number_of}
 use Rattle.tenant_rules.specs.Own.{Own}
 use Rattle.tenant_rules.specs.Own as own
-use Rattle.otlp_prepare.specs.Prepared.{PreparedData, IsPrepared}
+use Rattle.prepared_body.specs.Prepared.{PreparedData}
+use Rattle.otlp_prepare.specs.Prepared.{IsPrepared}
 use Rattle.otlp_prepare.specs.declared.refusal.Refusal.{Refusal}
 use Rattle.otlp_prepare.specs.declared.refusal.Refusal.TheVariants as refusal
 use Rattle.tenant_shard.specs.View.{View}

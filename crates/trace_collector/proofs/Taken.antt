@@ -18,7 +18,7 @@ use Rattle.tenant_rules.specs.Own as own
 use Rattle.tenant_rules.specs.Intake.{verdict, intake}
 use Rattle.tenant_rules.specs.Answers.{answer, reply_of}
 use Rattle.otlp_prepare.specs.Arrivals.{arrivals_of}
-use Rattle.otlp_prepare.specs.Equal.{policy_parts, policy_eq, same_policies}
+use Rattle.prepared_body.specs.Equal.{policy_parts, policy_eq, same_policies}
 use Rattle.tenant_pipeline.specs.Prepared.{invalid_arrival}
 use Rattle.tenant_shard.specs.declared.step.Outcome.{Outcome}
 use Rattle.tenant_shard.specs.Outcomes.{OwnStep, is_taken, Answered, named}

@@ -4,7 +4,8 @@ use Rattle.http_edge.specs.Message.{Request, Response}
 use Rattle.machine_hub.specs.declared.receipt.Receipt.{Receipt}
 use Rattle.machine_hub.specs.Hub.{IsRefusedOn}
 use Rattle.otlp_front.specs.Route.{Route, names_in, route_of, post, refuse, unknown_tenant}
-use Rattle.otlp_prepare.specs.Prepared.{PreparedData, prepared_of}
+use Rattle.prepared_body.specs.Prepared.{PreparedData}
+use Rattle.otlp_prepare.specs.Prepared.{prepared_of}
 use Rattle.otlp_read.specs.Value.{IsValue}
 use Rattle.otlp_trace.specs.Data.{RequestData}
 use Rattle.service_runtime.specs.Moments.{Rises}

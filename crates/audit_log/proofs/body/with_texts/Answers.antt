@@ -1,5 +1,5 @@
 use Rattle.std.proofs.Common.{rules, ◌++◌, List, ℕ, length, arith, ap}
-use Rattle.otlp_prepare.specs.declared.noted.NotedSpan.{NotedSpan}
+use Rattle.prepared_body.specs.declared.noted.NotedSpan.{NotedSpan}
 use Rattle.audit_log.specs.Bodies.{spans_from}
 use Rattle.audit_log.proofs.Spans.{next_fits, others_fit, one_made, all_made}
 use Rattle.audit_log.proofs.body.with_texts.Goals as goal

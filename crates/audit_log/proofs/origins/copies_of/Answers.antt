@@ -1,5 +1,5 @@
 use Rattle.std.proofs.Common.{map, ap, ◌∙◌}
-use Rattle.otlp_prepare.specs.Origin.{OriginTexts}
+use Rattle.prepared_body.specs.Origin.{OriginTexts}
 use Rattle.std.specs.Prelude.{List}
 use Rattle.audit_log.specs.Origins.{around}
 use Rattle.audit_log.proofs.Around.{first_has}

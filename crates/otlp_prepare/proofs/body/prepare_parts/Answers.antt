@@ -4,7 +4,7 @@ use Rattle.otlp_parts.specs.Parts.{body_parts_view}
 use Rattle.tail_settings.specs.Policy.{PolicyData, policy_view}
 use Rattle.tail_settings.specs.Section.{section_view}
 use Rattle.tail_settings.specs.declared.policy.PolicySpec.{PolicySpec}
-use Rattle.otlp_prepare.specs.Prepared.{AreReady}
+use Rattle.prepared_body.specs.Prepared.{AreReady}
 use Rattle.otlp_prepare.proofs.Joined.{are_ready}
 use Rattle.otlp_prepare.proofs.Valued.{all_prepared}
 use Rattle.otlp_prepare.proofs.body.prepare_parts.Goals as goal

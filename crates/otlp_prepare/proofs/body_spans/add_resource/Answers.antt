@@ -1,7 +1,7 @@
 use Rattle.std.proofs.Common.{◌∙◌, List, map, length, ap, sym}
 use Rattle.otlp_parts.specs.Parts.{resource_parts_view, scope_parts_view, scopes_in}
 use Rattle.span_pool.specs.Stored.{bytes_of}
-use Rattle.otlp_prepare.specs.Origin.{OriginTexts}
+use Rattle.prepared_body.specs.Origin.{OriginTexts}
 use Rattle.otlp_prepare.proofs.Adding.{all_around, one_around}
 use Rattle.otlp_prepare.proofs.Grouped.{group_added}
 use Rattle.otlp_prepare.proofs.body_spans.add_resource.Goals as goal

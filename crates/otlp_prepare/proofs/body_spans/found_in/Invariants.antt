@@ -1,7 +1,7 @@
 use Rattle.std.proofs.Common.{[], map, length}
 use Rattle.std.specs.Prelude.{reverse}
 use Rattle.otlp_parts.specs.Parts.{resource_parts_view}
-use Rattle.otlp_prepare.specs.Arrivals.{AreGrouped}
+use Rattle.prepared_body.specs.Arrivals.{AreGrouped}
 use Rattle.otlp_prepare.proofs.Gathered.{AreAdding}
 use Rattle.otlp_prepare.proofs.body_spans.found_in.Given as goal
 

@@ -2,7 +2,7 @@ use Rattle.std.proofs.Common.{rules, ◌≡◌, List, subst}
 use Rattle.std.specs.Prelude.{IfOk}
 use Rattle.std.proofs.lemmas.Iterator.{items_from_collect, YieldsList-from_map, YieldsList-from_zip}
 use Rattle.std.proofs.lemmas.Iterator.Adapters.{YieldsList-from_vec}
-use Rattle.otlp_prepare.specs.declared.noted.NotedSpan.{NotedSpan}
+use Rattle.prepared_body.specs.declared.noted.NotedSpan.{NotedSpan}
 use Rattle.otlp_prepare.proofs.Joined.{both_parts, joined}
 use Rattle.otlp_prepare.proofs.notes.with_notes.Goals as goal
 

@@ -4,7 +4,7 @@ use Rattle.tenant_stores.specs.Part.{part}
 use Rattle.tenant_stores.specs.Invariant.{StoreInvariant}
 use Rattle.tenant_stores.specs.Trail.{HoldsAll}
 use Rattle.tenant_stores.specs.View.{text_at, text_keys}
-use Rattle.otlp_prepare.specs.Arrivals.{origin_view}
+use Rattle.prepared_body.specs.Arrivals.{origin_view}
 use Rattle.tenant_pipeline.proofs.Placing.{given_back}
 use Rattle.tenant_pipeline.proofs.post.hold_origin.Goals as goal
 

@@ -4,7 +4,7 @@ use Rattle.tenant_rules.specs.Intake.{Verdict}
 use Rattle.tenant_stores.specs.Part.{part}
 use Rattle.tenant_pipeline.specs.declared.pipeline.Pipeline.{Pipeline}
 use Rattle.tenant_pipeline.specs.StateIn.{part_in, written_state_in, written_state_of}
-use Rattle.otlp_prepare.specs.Arrivals.{arrivals_in}
+use Rattle.prepared_body.specs.Arrivals.{arrivals_in}
 use Rattle.tenant_pipeline.specs.Posts.{held_keys, IsPosting, IsTaken, IsWrittenWith}
 use Rattle.tenant_pipeline.proofs.Holds.{written_on}
 use Rattle.tenant_pipeline.proofs.Posting.{Ended, none_placed, is_next, one_placed, all_placed, count_of, ended, same_tenant, verdict_is}

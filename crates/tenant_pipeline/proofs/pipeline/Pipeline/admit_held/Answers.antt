@@ -5,7 +5,7 @@ use Rattle.std.proofs.lemmas.Result.{on_ok_weaker}
 use Rattle.decision_cache.specs.Caches.{found}
 use Rattle.drop_ledger.specs.Ledger.{moved, taken}
 use Rattle.drop_ledger.specs.declared.places.Place.TheVariants.{Undecided, NotSampled}
-use Rattle.otlp_prepare.specs.Arrivals.{arrival_in}
+use Rattle.prepared_body.specs.Arrivals.{arrival_in}
 use Rattle.tenant_stores.specs.Part.{part}
 use Rattle.tenant_rules.specs.Arrivals.{trace_of}
 use Rattle.tenant_rules.specs.Machine.{cached_or_opens, come, counted_in, has_row, held as held_spans, sampled_in}

@@ -13,8 +13,8 @@ use Rattle.tenant_rules.specs.Machine.{all_come, posted, post_verdict}
 use Rattle.tenant_rules.specs.State.{State}
 use Rattle.tenant_stores.specs.Part.{part}
 use Rattle.tenant_stores.specs.Trail.{HoldsAll}
-use Rattle.otlp_prepare.specs.Arrivals.{arrival_in, arrivals_in}
-use Rattle.otlp_prepare.specs.Prepared.{AreReady}
+use Rattle.prepared_body.specs.Arrivals.{arrival_in, arrivals_in}
+use Rattle.prepared_body.specs.Prepared.{AreReady}
 use Rattle.tenant_pipeline.specs.Acts.{at}
 use Rattle.tenant_pipeline.specs.Invariant.{PipelineInvariantAt}
 use Rattle.tenant_pipeline.specs.Posts.{held_keys, IsTaken, verdict_after}

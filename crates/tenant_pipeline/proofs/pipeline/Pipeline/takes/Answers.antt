@@ -2,9 +2,9 @@ use Rattle.std.proofs.Common.{◌≡◌, List, map, sym, ap, subst, ◌∙◌, B
 use Rattle.std.specs.Prelude.{Decides}
 use Rattle.tail_settings.specs.Policy.{policy_view}
 use Rattle.tail_settings.specs.declared.policy.PolicySpec.{PolicySpec}
-use Rattle.otlp_prepare.specs.Equal.{same_policies}
+use Rattle.prepared_body.specs.Equal.{same_policies}
 use Rattle.tenant_pipeline.specs.StateIn.{policies_of}
-use Rattle.otlp_prepare.proofs.Equals.{same_policies_decides}
+use Rattle.prepared_body.proofs.Equals.{same_policies_decides}
 use Rattle.tenant_pipeline.proofs.pipeline.Pipeline.takes.Goals as goal
 
 pub returns-in-Post : goal.returns-in-Post

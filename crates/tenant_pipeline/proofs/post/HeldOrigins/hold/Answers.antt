@@ -9,8 +9,8 @@ use Rattle.tenant_stores.specs.Part.{part}
 use Rattle.tenant_stores.specs.Shows.{AreAmong}
 use Rattle.tenant_stores.specs.View.{text_at}
 use Rattle.tenant_stores.proofs.Lists.{count-append}
-use Rattle.otlp_prepare.specs.Arrivals.{no_origin, origin_view}
-use Rattle.otlp_prepare.specs.Arrivals as prepared
+use Rattle.prepared_body.specs.Arrivals.{no_origin, origin_view}
+use Rattle.prepared_body.specs.Arrivals as prepared
 use Rattle.tenant_pipeline.specs.declared.post.HeldOrigins.{HeldOrigins}
 use Rattle.tenant_pipeline.specs.Posts.{all_keys, held_keys, keys_at, keys_if}
 use Rattle.tenant_pipeline.proofs.Holds.{held_there, holds_more, more_sound, not_held, origin_here, place_here, place_read, still_held}

@@ -1,7 +1,7 @@
 use Rattle.std.proofs.Common.{◌∙◌, ap}
 use Rattle.std.proofs.lemmas.List.{get_or_read}
-use Rattle.otlp_prepare.specs.Arrivals.{no_origin}
-use Rattle.otlp_prepare.specs.Origin.{OriginTexts}
+use Rattle.prepared_body.specs.Arrivals.{no_origin}
+use Rattle.prepared_body.specs.Origin.{OriginTexts}
 use Rattle.tenant_pipeline.proofs.Origins.{like_among, like_resource}
 use Rattle.tenant_pipeline.proofs.post.HeldOrigins.keys_like.Goals as goal
 

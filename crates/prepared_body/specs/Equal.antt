@@ -7,9 +7,9 @@ use Rattle.tail_settings.specs.Policy.{StatusData, unset, ok, error, LeafData, a
 use Rattle.span_pool.specs.Stored.{same_bytes}
 use Rattle.span_pool.specs.Equal.{origin_eq, bytes_laws, origin_laws}
 use Rattle.tenant_rules.specs.Arrivals.{Arrival}
-use Rattle.otlp_prepare.specs.Origin.{OriginTexts}
-use Rattle.otlp_prepare.specs.Arrivals.{origin_view}
-use Rattle.otlp_prepare.specs.Prepared.{PreparedData}
+use Rattle.prepared_body.specs.Origin.{OriginTexts}
+use Rattle.prepared_body.specs.Arrivals.{origin_view}
+use Rattle.prepared_body.specs.Prepared.{PreparedData}
 
 -- the same resource and scope with the same schemas, whose URLs may be missing or empty
 abbrev pub same_origin : OriginTexts → OriginTexts → Bool

@@ -2,10 +2,10 @@ use Rattle.std.proofs.Common.{List, sym, ap, ◌∙◌, map}
 use Rattle.std.specs.Arc.{arc_slice_items}
 use Rattle.tail_settings.specs.Policy.{policy_view}
 use Rattle.tail_settings.specs.declared.policy.PolicySpec.{PolicySpec}
-use Rattle.otlp_prepare.specs.Equal.{same_policies}
-use Rattle.otlp_prepare.specs.Prepared.{PreparedData}
-use Rattle.otlp_prepare.proofs.Equals.{after_equal}
-use Rattle.otlp_prepare.proofs.prepared.Prepared.is_for_same.Goals as goal
+use Rattle.prepared_body.specs.Equal.{same_policies}
+use Rattle.prepared_body.specs.Prepared.{PreparedData}
+use Rattle.prepared_body.proofs.Equals.{after_equal}
+use Rattle.prepared_body.proofs.prepared.Prepared.is_for_same.Goals as goal
 
 pub returns-then-self-other : goal.returns-then-self-other
 returns-then-self-other c =

@@ -1,6 +1,6 @@
 use Rattle.std.specs.Arc.{arc_slice_items}
-use Rattle.otlp_prepare.proofs.Equals.{same_policy_lists}
-use Rattle.otlp_prepare.proofs.prepared.Prepared.has_policies.Goals as goal
+use Rattle.prepared_body.proofs.Equals.{same_policy_lists}
+use Rattle.prepared_body.proofs.prepared.Prepared.has_policies.Goals as goal
 
 pub returns : goal.returns
 returns c =

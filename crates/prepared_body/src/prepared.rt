@@ -4,8 +4,8 @@ ghost use Rattle.std.specs.Prelude.{◌≡◌, ◌↔◌, true, ◌<◌, length}
 ghost use Rattle.std.specs.Arc.{arc_slice_items};
 ghost use Rattle.std.specs.List.{AllByRecursion};
 ghost use Rattle.std.specs.Cmp.Lexicographic.{pointwise};
-ghost use Rattle.otlp_prepare.specs.Arrivals.{arrival_in, arrivals_in};
-ghost use Rattle.otlp_prepare.specs.Equal.{arrival_eq, prepared_eq};
+ghost use Rattle.prepared_body.specs.Arrivals.{arrival_in, arrivals_in};
+ghost use Rattle.prepared_body.specs.Equal.{arrival_eq, prepared_eq};
 
 use crate::noted::{NotedSpan, SpanOrigin};
 use std::marker::Model;
@@ -28,8 +28,8 @@ impl Model for Prepared {
     ghost use Rattle.std.specs.Prelude.{◌≤◌, length, map};
     ghost use Rattle.std.specs.Arc.{arc_slice_items};
     ghost use Rattle.tail_settings.specs.Policy.{policy_view};
-    ghost use Rattle.otlp_prepare.specs.Arrivals.{arrivals_in, AreGrouped};
-    ghost use Rattle.otlp_prepare.specs.Prepared.{PreparedData, AreReady};
+    ghost use Rattle.prepared_body.specs.Arrivals.{arrivals_in, AreGrouped};
+    ghost use Rattle.prepared_body.specs.Prepared.{PreparedData, AreReady};
 
     ghost Value = { PreparedData };
 
@@ -46,7 +46,7 @@ impl Model for Prepared {
 }
 
 impl PartialEq for Prepared {
-    ghost use Rattle.otlp_prepare.specs.Equal.{prepared_eq, prepared_laws};
+    ghost use Rattle.prepared_body.specs.Equal.{prepared_eq, prepared_laws};
 
     ghost eq = { prepared_eq };
 
@@ -98,12 +98,12 @@ fn are_same_spans(
 impl Prepared {
     ghost use Rattle.std.specs.Prelude.{◌≤◌, map};
     ghost use Rattle.tail_settings.specs.Policy.{policy_view};
-    ghost use Rattle.otlp_prepare.specs.Arrivals.{arrivals_in, AreGrouped};
-    ghost use Rattle.otlp_prepare.specs.Prepared.{AreReady};
-    ghost use Rattle.otlp_prepare.specs.Equal.{arrival_eq, same_policies, same_tenant, same_front};
+    ghost use Rattle.prepared_body.specs.Arrivals.{arrivals_in, AreGrouped};
+    ghost use Rattle.prepared_body.specs.Prepared.{AreReady};
+    ghost use Rattle.prepared_body.specs.Equal.{arrival_eq, same_policies, same_tenant, same_front};
 
     /// These valid spans of a tenant's body with their origins, whose notes are for these policies, beside so many that
-    /// were left out: [`prepare`](crate::prepare) makes it so of a body, and who kept the parts of one has it again.
+    /// were left out: `prepare` of `otlp_prepare` makes it so of a body, and who kept the parts of one has it again.
     pub fn of(
         tenant: u32,
         policies: ArcSlice<PolicySpec>,

@@ -1,5 +1,5 @@
 -- Bodies are equal where what they are is.
-use Rattle.std.proofs.Common.{◌≡◌, ℕ, ℤ, pos, negsuc, List, [], ◌∷◌, map, length, get_or, drop, refl, sym, ap, subst, ◌∙◌, Bool, true, false, eqb, arith, ◌<◌, ◌≤◌, ◌+◌}
+use Rattle.std.proofs.Common.{◌≡◌, ℕ, ℤ, pos, negsuc, List, [], ◌∷◌, Option, Some, None, map, length, get_or, drop, refl, sym, ap, subst, ◌∙◌, Bool, true, false, eqb, arith, ◌<◌, ◌≤◌, ◌+◌}
 use Rattle.std.proofs.lemmas.List.{drop_more, drop_all}
 use Rattle.std.proofs.lemmas.Bool.Decides.{nat_tests, Decides-eqb}
 use Rattle.std.specs.Bool.{one_answer}
@@ -8,15 +8,14 @@ use Rattle.std.specs.Cmp.Lexicographic.{pointwise, pointwise_decides, bytes_deci
 use Rattle.tail_settings.specs.Policy.{StatusData, unset, ok, error, LeafData, always_sample, latency, status_code, string_attribute, numeric_attribute, PolicyData, leaf, and, policy_view}
 use Rattle.tail_settings.specs.declared.policy.PolicySpec.{PolicySpec}
 use Rattle.span_view.specs.Reading.{facts_of}
-use Rattle.otlp_parts.proofs.Same.{text_decides}
-use Rattle.span_pool.specs.Stored.{Origin as OriginData, bytes_of}
+use Rattle.span_pool.specs.Stored.{Origin as OriginData, bytes_of, same_text}
 use Rattle.span_pool.specs.Equal.{origin_eq}
 use Rattle.tenant_rules.specs.Arrivals.{Arrival}
-use Rattle.otlp_prepare.specs.Origin.{OriginTexts}
-use Rattle.otlp_prepare.specs.declared.noted.NotedSpan.{NotedSpan}
-use Rattle.otlp_prepare.specs.Arrivals.{arrival_in, arrivals_in}
-use Rattle.otlp_prepare.specs.Equal.{arrival_eq, status_number, signed, leaf_parts, policy_parts, policy_eq, same_policies, prepared_eq}
-use Rattle.otlp_prepare.specs.Prepared.{PreparedData}
+use Rattle.prepared_body.specs.Origin.{OriginTexts}
+use Rattle.prepared_body.specs.declared.noted.NotedSpan.{NotedSpan}
+use Rattle.prepared_body.specs.Arrivals.{arrival_in, arrivals_in}
+use Rattle.prepared_body.specs.Equal.{arrival_eq, status_number, signed, leaf_parts, policy_parts, policy_eq, same_policies, prepared_eq}
+use Rattle.prepared_body.specs.Prepared.{PreparedData}
 
 -- lists that a function takes to one list are one where it takes no two members to one
 one_list : {A B : Type 0} → (f : A → B) → ((a b : A) → f a ≡ f b → a ≡ b) → (xs ys : List A) → map f xs ≡ map f ys → xs ≡ ys
@@ -77,6 +76,12 @@ after_equal x y more value same is = let test : eqb x y ≡ true = grind (arith,
 and_decides : {P Q : Type 0} → (a b : Bool) → Decides a P → Decides b Q → Decides (a && b) (P × Q)
 and_decides true b p q = (λ h. (p.0 refl, q.0 h), λ h. q.1 h.1)
 and_decides false b p q = (λ h. absurd (cc), λ h. p.1 h.0)
+
+text_decides : (a b : Option (List ℕ)) → Decides (same_text a b) (a ≡ b)
+text_decides None None = (λ h. refl, λ h. refl)
+text_decides None (Some y) = (λ h. absurd (cc), λ h. absurd (cc))
+text_decides (Some x) None = (λ h. absurd (cc), λ h. absurd (cc))
+text_decides (Some x) (Some y) = (λ h. ap Some ((bytes_decides x y).0 h), λ h. let same : x ≡ y = cc in (bytes_decides x y).1 same)
 
 origin_decides : (a b : OriginData) → Decides (origin_eq a b) (a ≡ b)
 origin_decides a b =

@@ -1,7 +1,7 @@
 use Rattle.std.proofs.Common.{sym, ap}
-use Rattle.otlp_prepare.specs.Prepared.{PreparedData}
-use Rattle.otlp_prepare.proofs.Equals.{prepared_decides}
-use Rattle.otlp_prepare.proofs.prepared.equal_bodies_are_the_same.Goals as goal
+use Rattle.prepared_body.specs.Prepared.{PreparedData}
+use Rattle.prepared_body.proofs.Equals.{prepared_decides}
+use Rattle.prepared_body.proofs.prepared.equal_bodies_are_the_same.Goals as goal
 
 pub returns : goal.returns
 returns c =

@@ -2,7 +2,7 @@
 
 ghost use Rattle.std.specs.Prelude.{◌≡◌, IfOk, option_copied};
 ghost use Rattle.span_pool.specs.Stored.{bytes_of, same_bytes, same_text};
-ghost use Rattle.otlp_prepare.specs.Origin.{text_if};
+ghost use Rattle.prepared_body.specs.Origin.{text_if, is_within, are_texts_within};
 
 use std::alloc::{AllocError, Global};
 use std::marker::Model;
@@ -29,7 +29,7 @@ pub struct SpanOrigin {
 }
 
 impl Model for SpanOrigin {
-    ghost use Rattle.otlp_prepare.specs.Origin.{OriginTexts, text_if};
+    ghost use Rattle.prepared_body.specs.Origin.{OriginTexts, text_if};
 
     ghost Value = { OriginTexts };
 
@@ -75,6 +75,16 @@ fn copy_or(
         text.copied(alloc)
     } else {
         other.shared()
+    }
+}
+
+/// Whether the text, where it is there, is no longer than so many bytes.
+fn is_text_within(text: Option<&SharedBytes>, bytes: usize) -> bool
+    ensures { result ≡ is_within bytes (option_copied text.entry) }
+{
+    match text {
+        Some(text) => text.bytes().len() <= bytes,
+        None => true,
     }
 }
 
@@ -134,7 +144,7 @@ impl SpanOrigin {
     }
 
     /// The same texts in memory of their own, so that no body's block stays for them. No digest is made.
-    pub(crate) fn copied(&self, alloc: Global) -> Result<SpanOrigin, AllocError>
+    pub fn copied(&self, alloc: Global) -> Result<SpanOrigin, AllocError>
         ensures { IfOk result (λ origin. origin ≡ self.now) }
     {
         let resource = self.resource.copied(alloc)?;
@@ -160,12 +170,14 @@ impl SpanOrigin {
         })
     }
 
-    /// Whether none of its texts is longer than so many bytes.
-    pub(crate) fn is_within(&self, bytes: usize) -> bool {
-        self.resource.bytes().len() <= bytes
-            && self.resource_schema_url.bytes().len() <= bytes
-            && self.scope.bytes().len() <= bytes
-            && self.scope_schema_url.bytes().len() <= bytes
+    /// Whether none of the texts that are there is longer than so many bytes.
+    pub fn is_within(&self, bytes: usize) -> bool
+        ensures { result ≡ are_texts_within bytes self.now }
+    {
+        is_text_within(self.resource(), bytes)
+            && is_text_within(self.resource_schema_url(), bytes)
+            && is_text_within(self.scope(), bytes)
+            && is_text_within(self.scope_schema_url(), bytes)
     }
 
     /// Which of the body's origins is the first one of the same resource spans. Those of one resource spans have the
@@ -242,7 +254,7 @@ fn is_same_url(one: Option<&SharedBytes>, other: Option<&SharedBytes>) -> bool
 }
 
 impl PartialEq for SpanOrigin {
-    ghost use Rattle.otlp_prepare.specs.Equal.{same_origin, same_origin_laws};
+    ghost use Rattle.prepared_body.specs.Equal.{same_origin, same_origin_laws};
 
     ghost eq = { same_origin };
 

@@ -1,8 +1,8 @@
 use Rattle.std.proofs.Common.{◌≡◌, drop}
 use Rattle.std.specs.Cmp.Lexicographic.{pointwise}
-use Rattle.otlp_prepare.specs.Arrivals.{arrivals_in}
-use Rattle.otlp_prepare.specs.Equal.{arrival_eq}
-use Rattle.otlp_prepare.proofs.prepared.are_same_spans.Given as goal
+use Rattle.prepared_body.specs.Arrivals.{arrivals_in}
+use Rattle.prepared_body.specs.Equal.{arrival_eq}
+use Rattle.prepared_body.proofs.prepared.are_same_spans.Given as goal
 
 -- what is left is as much the same as the whole
 abbrev pub invariant-loop-i : goal.invariant-loop-i

@@ -1,0 +1,4 @@
+pub mod Origin
+pub mod Arrivals
+pub mod Prepared
+pub mod Equal
