@@ -14,7 +14,7 @@ from pathlib import Path
 
 TEMPLATE = Path(__file__).resolve().with_name("trace_collector.1.in")
 # What begins a paragraph of the help, and where it goes; the ones before have no such words.
-HEADS = {"Behind `serve SETTINGS`": "OPTIONS", "The lines of a script:": "SCRIPTS", "Bytes are": "NOTES"}
+HEADS = {"Options of `serve`": "OPTIONS", "The lines of a script:": "SCRIPTS", "Bytes are": "NOTES"}
 FIRST = ("DESCRIPTION", "SYNOPSIS", "COMMANDS")
 USAGE, STATUSES = "usage: ", "Exit statuses: "
 WIDTH = 80

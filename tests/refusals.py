@@ -35,7 +35,7 @@ KNOWN = [
     ("tenant_pipeline/src/outbox.rt", "offer", 1, "the queue gives the batch back with its want of memory"),
     ("tenant_pipeline/src/unsent.rt", "write", 1, "the queue gives the batch back with its want of memory"),
     ("tail_settings/src/parsed.rt", "parse", 1, "the TOML reader's error says that it is want of memory"),
-    ("trace_collector_program/src/serve.rt", "from", 1, "a thread wasn't started for want of what one is started with"),
+    ("trace_collector_program/src/serve.rt", "fault_of", 1, "a thread needs memory of its own to start"),
     ("tenant_shard/src/shard.rt", "run", 2, "room for the outcomes was refused, or a step was"),
     ("tenant_registry/src/replies.rt", "without_memory", 1, "the reply itself"),
     ("tenant_registry/src/changes.rt", "added", 1, "there was no memory to hear what is answered: it is no text"),

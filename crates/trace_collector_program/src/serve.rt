@@ -1,106 +1,40 @@
 //! The word `serve`.
 
-ghost use Rattle.std.specs.Prelude.{codes, ◌≡◌, ◌↔◌, Ok, IfErr, IfSome, None, option_copied, option_map, unwrap_or};
+ghost use Rattle.std.specs.Prelude.{◌≡◌, option_map};
 ghost use Rattle.std.specs.Duration.{as_nanos};
-ghost use Rattle.trace_collector_program.specs.Fault.{of_service};
-ghost use Rattle.trace_collector_program.specs.Reason.{TellsOf};
-ghost use Rattle.trace_collector_program.specs.Serve.{IsAsked, nanos_of};
-ghost use Rattle.trace_collector_program.specs.Task.{options_view};
-ghost use Rattle.trace_collector_program.specs.declared.ProgramFault.TheVariants as faults;
-ghost use Rattle.trace_collector.specs.declared.engine.ReplayFault.TheVariants as replay_faults;
+ghost use Rattle.collector_command.specs.Task.{options_view};
+ghost use Rattle.trace_collector_program.specs.Serve.{IsAsked, nanos_of, of_service};
 
-use crate::admin::{AdminDoor, admin_door};
-use crate::descriptors::ThreadCounts;
-use crate::reason::Reason;
-use crate::start::{has_descriptors, listen_at, settings_of_file};
-use crate::task::{ServeOptions, VERSION};
-use crate::watched::Watched;
-use crate::{ProgramFault, READ_SIZE};
-use decision_cache::HashKeys;
-use service_runtime::{
-    ADMINS, AdminDesk, AdminPort, DeskDocuments, DeskInput, DeskOutput, Documents, Observer, Stage,
+use collector_command::{
+    AdminDoor, Course, ProgramFault, READ_SIZE, Reason, ServeOptions, Watched, admin_door,
+    has_descriptors, listen_at, port_at, put_input, put_output, settings_of_file, thread_counts,
+    whole,
 };
+use decision_cache::HashKeys;
+use service_runtime::{AdminDesk, DeskDocuments, DeskInput, DeskOutput, Documents, Observer};
 use std::alloc::Global;
 use std::fs::File;
 use std::io;
-use std::io::{BufRead, BufReader, ErrorKind, Write};
+use std::io::{BufRead, BufReader, Write};
 use std::net::{Net, TcpListener, TcpStream};
 use std::random::RandomSource;
 use std::rt::Files;
 use std::sync::Wait;
 use std::thread::Threads;
 use std::time::{Clock, Duration};
-use tail_settings::{GlobalSettings, Settings};
-use thiserror::Error;
+use tail_settings::Settings;
 use trace_collector::ReplayFault;
 use trace_service::{Console, ServiceFault, ServiceOptions, ServiceStart, run_service};
 
-impl From<ServiceFault> for ProgramFault {
-    ghost from_gives = { λ fault given. given ≡ of_service fault };
-
-    fn from(fault: ServiceFault) -> ProgramFault {
-        match fault {
-            ServiceFault::OutOfMemory => ProgramFault::Replay(ReplayFault::OutOfMemory),
-            // What a thread is started with is memory too.
-            ServiceFault::NoThread => ProgramFault::Replay(ReplayFault::OutOfMemory),
-            ServiceFault::Line => ProgramFault::Replay(ReplayFault::Line),
-        }
-    }
-}
-
-/// Answers couldn't be written.
-#[derive(Debug, Drop, Error)]
-#[error("{kind}, answers lost: {lost}")]
-struct Loss {
-    kind: ErrorKind,
-    lost: u64,
-}
-
-/// Tells the service's course on standard error, a line a stage, where that is asked for. What can't be written is left
-/// out, and nothing else changes.
-#[derive(Drop)]
-struct Course<'r, R> {
-    rt: &'r R,
-    listener: &'r TcpListener,
-    door: &'r Option<AdminDoor>,
-    is_verbose: bool,
-}
-
-impl<R: Eprint> Observer for Course<'_, R> {
-    fn observe(&mut self, stage: Stage<'_>) {
-        if self.is_verbose {
-            let _ = self.tell(stage);
-        }
-    }
-}
-
-impl<R: Eprint> Course<'_, R> {
-    fn tell(&self, stage: Stage<'_>) -> io::Result<()> {
-        match stage {
-            Stage::Serving => {
-                let address = self.listener.local_addr()?;
-                eprintln!(self.rt; "serving at {address}")?;
-                if let Some(door) = self.door {
-                    let address = door.listener.local_addr()?;
-                    eprintln!(self.rt; "admin port at {address}")?;
-                }
-                Ok(())
-            }
-            Stage::Skipped { line } => {
-                let line = line.escape_ascii();
-                eprintln!(self.rt; "skipped: {line}")
-            }
-            Stage::Draining => self.rt.eprintln(
-                "draining: tenants take no more spans, and send what they hold",
-            ),
-            Stage::Sending { name } => {
-                eprintln!(self.rt; "sending: waiting until {name} holds no spans")
-            }
-            Stage::Closing => self
-                .rt
-                .eprintln("closing: all is sent, waiting for open connections"),
-            Stage::Ended => self.rt.eprintln("ended: all threads are done"),
-        }
+/// The fault with which the program ends after a service's fault.
+fn fault_of(fault: ServiceFault) -> ProgramFault
+    ensures { result ≡ of_service fault }
+{
+    match fault {
+        ServiceFault::OutOfMemory => ProgramFault::Replay(ReplayFault::OutOfMemory),
+        // A thread starts with memory of its own.
+        ServiceFault::NoThread => ProgramFault::Replay(ReplayFault::OutOfMemory),
+        ServiceFault::Line => ProgramFault::Replay(ReplayFault::Line),
     }
 }
 
@@ -144,7 +78,10 @@ where
         Some(door) => serve_at_desk(launch, door, output, course, reason),
         None => serve_input(launch, output, course, reason),
     };
-    whole(served?)
+    match served {
+        Ok(lost) => whole(lost),
+        Err(fault) => Err(fault_of(fault)),
+    }
 }
 
 /// So many bytes, 1 MiB, are taken and given back at once.
@@ -156,22 +93,6 @@ const GIVEN_BACK: usize = 1_048_576;
 /// there is no memory for it, nothing changes.
 fn give_back_at_once(alloc: Global) {
     let _ = Vec::<u8>::with_capacity(alloc, GIVEN_BACK);
-}
-
-/// The threads that hold a connection each, by settings and options.
-fn thread_counts(global: &GlobalSettings, options: &ServeOptions<'_>) -> ThreadCounts
-    ensures receivers { result.receivers ≡ unwrap_or options.now.connections global.now.receivers }
-    ensures senders { result.senders ≡ unwrap_or options.now.senders global.now.senders }
-    ensures admins { result.admins ≡ option_map (λ _. ADMINS) options.now.admin }
-{
-    ThreadCounts {
-        receivers: options.connections.unwrap_or(global.receivers),
-        senders: options.senders.unwrap_or(global.senders),
-        admins: match options.admin {
-            Some(_) => Some(ADMINS),
-            None => None,
-        },
-    }
 }
 
 /// What the service is started with, whoever ends it.
@@ -280,43 +201,6 @@ where
     run_service(&start, launch.settings, console)
 }
 
-/// The admin port of this door and this desk.
-fn port_at<'x>(door: &'x AdminDoor, desk: &'x AdminDesk) -> AdminPort<'x>
-    ensures listener { result.listener.now ≡ door.now.listener }
-    ensures desk { result.desk.now ≡ desk.now }
-    ensures token { option_copied result.token ≡ option_map (λ token. token.items) door.now.token }
-    ensures status { option_copied result.status ≡ door.now.status }
-    ensures version { result.version.now ≡ VERSION.now }
-{
-    let token = match &door.token {
-        Some(token) => Some(token.as_slice()),
-        None => None,
-    };
-    let status = match &door.status {
-        Some(status) => Some(status),
-        None => None,
-    };
-    AdminPort {
-        listener: &door.listener,
-        desk,
-        token,
-        status,
-        version: VERSION,
-    }
-}
-
-/// The fault of a service of whose answers so many were lost.
-fn whole(lost: u64) -> Result<(), ProgramFault>
-    ensures whole { result ≡ Ok tt ↔ lost ≡ 0 }
-    ensures fault { IfErr result (λ fault. fault ≡ faults.Replay replay_faults.Line) }
-{
-    if lost == 0 {
-        Ok(())
-    } else {
-        Err(ProgramFault::Replay(ReplayFault::Line))
-    }
-}
-
 /// How the service is run that these options ask for.
 fn service_options(options: &ServeOptions<'_>, keys: HashKeys) -> ServiceOptions
     ensures { IsAsked (options_view options.now) keys result }
@@ -341,30 +225,5 @@ fn duration(millis: Option<u32>) -> Option<Duration>
     match millis {
         Some(millis) => Some(Duration::from_millis(u64::from(millis))),
         None => None,
-    }
-}
-
-/// The reason for which the input failed, where it did.
-fn put_input<I>(reason: &mut Reason, input: &Watched<I>)
-    ensures told { reason.new.is_told ≡ reason.old.is_told }
-    ensures line { IfSome input.now.fault (λ kind. TellsOf (codes "standard input") reason.old
-        reason.new) }
-    ensures same { input.now.fault ≡ None → reason.new ≡ reason.old }
-{
-    if let Some(kind) = input.fault() {
-        reason.put("standard input", &kind);
-    }
-}
-
-/// The reason for which the output failed, where it did.
-fn put_output<O>(reason: &mut Reason, output: &Watched<O>)
-    ensures told { reason.new.is_told ≡ reason.old.is_told }
-    ensures line { IfSome output.now.fault (λ kind. TellsOf (codes "standard output") reason.old
-        reason.new) }
-    ensures same { output.now.fault ≡ None → reason.new ≡ reason.old }
-{
-    if let Some(kind) = output.fault() {
-        let lost = output.failed();
-        reason.put("standard output", &Loss { kind, lost });
     }
 }

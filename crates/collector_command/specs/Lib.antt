@@ -1,0 +1,11 @@
+pub mod Task
+pub mod Token
+pub mod Served
+pub mod Fault
+pub mod Run
+pub mod Reason
+pub mod Check
+pub mod Descriptors
+pub mod Status
+pub mod Watched
+pub mod Examples

@@ -1,6 +1,0 @@
-use Rattle.std.proofs.Common.{◌≡◌, false, drop}
-use Rattle.trace_collector_program.specs.Token.{goes_on}
-use Rattle.trace_collector_program.proofs.admin.goes_on.Given as goal
-
-abbrev pub invariant-loop-byte : goal.invariant-loop-byte
-invariant-loop-byte l = goes_on l.is_padded (drop l.byte-index l.behind) ≡ goes_on false l.behind
