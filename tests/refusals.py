@@ -44,9 +44,9 @@ KNOWN = [
     ("tenant_registry/src/changes.rt", "retire_told", 1, "there was no memory to hear what is answered: it is no text"),
     ("tenant_registry/src/changes.rt", "retire_answered", 1, "there was no memory to hear what is answered"),
     ("tenant_registry/src/documents.rt", "from", 1, "of a document's faults want of memory alone has no number"),
-    ("trace_service/src/context.rt", "reply_to_head", 1, "bodies on their way leave too little for this one, of what they may take"),
-    ("trace_service/src/context.rt", "answer", 1, "the step with the answer was refused memory"),
-    ("trace_service/src/context.rt", "admitted", 1, "memory was refused, and not all is done yet that was put off for it"),
+    ("service_context/src/context.rt", "reply_to_head", 1, "bodies on their way leave too little for this one, of what they may take"),
+    ("service_context/src/context.rt", "answer", 1, "the step with the answer was refused memory"),
+    ("service_context/src/context.rt", "admitted", 1, "memory was refused, and not all is done yet that was put off for it"),
 ]
 
 CLAUSE = re.compile(r"(?:ensures|requires|decreases|invariant|variant)\b\*?\s*(?:[a-z_]\w*\s*)?\{")

@@ -7,9 +7,9 @@ use Rattle.collector_command.specs.declared.fault.ProgramFault.{ProgramFault}
 use Rattle.collector_command.specs.declared.fault.ProgramFault.TheVariants.{Replay}
 use Rattle.decision_cache.specs.declared.keyed.HashKeys.{HashKeys}
 use Rattle.trace_collector.specs.declared.engine.ReplayFault.TheVariants as replay
-use Rattle.trace_service.specs.declared.options.ServiceOptions.{ServiceOptions}
-use Rattle.trace_service.specs.declared.service.ServiceFault.{ServiceFault}
-use Rattle.trace_service.specs.declared.service.ServiceFault.TheVariants as service
+use Rattle.service_front.specs.declared.options.ServiceOptions.{ServiceOptions}
+use Rattle.service_control.specs.declared.fault.ServiceFault.{ServiceFault}
+use Rattle.service_control.specs.declared.fault.ServiceFault.TheVariants as service
 
 -- of a service only the want of memory, or of what a thread is started with, is told apart
 abbrev pub of_service : ServiceFault → ProgramFault

@@ -1,14 +1,2 @@
-pub mod Audited
-pub mod Places
-pub mod Heard
-pub mod Coursed
-pub mod Handled
-pub mod Present
-pub mod Standing
-pub mod Asked
-pub mod Joined
-pub mod Shown
-pub mod Jobs
-pub mod Received
-pub mod Rising
-pub mod Given
+mod Audited
+mod Coursed

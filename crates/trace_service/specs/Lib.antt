@@ -1,12 +1,2 @@
-pub mod Post
-pub mod Work
-pub mod Jobs
-pub mod Assignment
-pub mod Comings
-pub mod Commands
-pub mod CommandReply
 pub mod Audit
-pub mod Fault
-pub mod Shown
 pub mod Whole
-pub mod Control

@@ -1,5 +1,5 @@
 -- What a service comes to, from its start to its end. This project's own rule.
-use Rattle.std.specs.Prelude.{◌≡◌, ℕ, ◌≤◌, List, ◌∷◌, length, map, Bool, Option, Some, Result, IfOk, slice_get, All}
+use Rattle.std.specs.Prelude.{◌≡◌, ℕ, ◌≤◌, List, ◌∷◌, length, Bool, Option, Some, Result, IfOk, slice_get, All}
 use Rattle.atomic_table.specs.Seated.{TableId}
 use Rattle.job_lane.specs.Lane.{SeatLists, IsWholeRun}
 use Rattle.machine_hub.specs.declared.view.Home.{Home}
@@ -13,25 +13,10 @@ use Rattle.shared_hub.specs.Shards.{AreOpened}
 use Rattle.tail_settings.specs.Settings.{SettingsData}
 use Rattle.tenant_registry.specs.Roster.{Present}
 use Rattle.trace_service.specs.Audit.{audit_text, IsFollowed}
-use Rattle.trace_service.specs.Comings.{Standing, unchanged}
-use Rattle.trace_service.specs.Commands.{AreDrained, AreEmptyOn, AreReported, AreCommandsRead, AreInForce}
-use Rattle.trace_service.specs.Jobs.{AreThreads}
-
--- What who reads the input did, by calls of one caller and in this order: all lines of the input were answered, each
--- tenant that was present then was drained, each was seen to hold no span, and each one's report was written.
-pub record IsDirected (port : Bool) (reads : Reads) (first : SettingsData) (standing : Standing) (shards : ℕ)
-    (input : Option (List ℕ)) (old : CallerState) (before : ℕ) (so_far : Output) (new : CallerState) (last : ℕ)
-    (written : Output) : Type 0 where
-  pub left : Standing
-  pub after_input : CallerState
-  pub input_end : ℕ
-  pub text : Output
-  pub heard : AreCommandsRead port reads first shards input standing old before so_far left after_input input_end text
-  pub after_drains : CallerState
-  pub drain_end : ℕ
-  pub drained : AreDrained shards after_input input_end (map (λ tenant. tenant.0) left.present) after_drains drain_end
-  pub empty : AreEmptyOn after_drains shards (map (λ tenant. tenant.0) left.present)
-  pub told : AreReported shards after_drains drain_end text left.present new last written
+use Rattle.service_control.specs.Comings.{unchanged}
+use Rattle.service_control.specs.Commands.{AreInForce}
+use Rattle.service_workers.specs.Jobs.{AreThreads}
+use Rattle.service_control.specs.Directed.{IsDirected}
 
 -- of a hub's callers, which had made no call, one did that, and nobody changed the settings before
 pub record IsCourse (port : Bool) (reads : Reads) (first : SettingsData) (present : Present) (shards : ℕ)

@@ -1,7 +1,6 @@
 //! The service, from its start to its end.
 
 ghost use Rattle.std.specs.Prelude.{◌≡◌, ◌<◌, ◌+◌, ℕ, [], Ok, length, All, IfOk, is_some, replicate, vec_len};
-ghost use Rattle.std.specs.IoError.{error_kind};
 ghost use Rattle.std.specs.Thread.{IsSync};
 ghost use Rattle.agreed_list.specs.Agreed.{half_of};
 ghost use Rattle.job_lane.specs.Lane.{new_seat};
@@ -12,29 +11,25 @@ ghost use Rattle.tail_settings.specs.Settings.{SettingsData, settings_view};
 ghost use Rattle.shard_machine.specs.MachineState.{MachineDoes};
 ghost use Rattle.tenant_registry.specs.Roster.{present_in};
 ghost use Rattle.trace_service.specs.Audit.{IsFollowed, audit_text};
-ghost use Rattle.trace_service.specs.Control.{Directs};
-ghost use Rattle.trace_service.specs.Fault.{IsOfLine, of_hub};
-ghost use Rattle.trace_service.specs.Jobs.{AreThreads, IsThread};
+ghost use Rattle.service_control.specs.Control.{Directs};
+ghost use Rattle.service_workers.specs.Jobs.{AreThreads, IsThread};
 ghost use Rattle.trace_service.specs.Whole.{IsCourseIfOk, IsServed};
-ghost use Rattle.trace_service.specs.declared.service.ServiceFault.TheVariants as faults;
 
-use crate::assignment::{assign_threads, collect_callers};
+use crate::audit::write_audit;
 use crate::beside::work_beside;
-use crate::context::WorkerContext;
-use crate::control::Control;
-use crate::naming::Naming;
-use crate::options::ServiceOptions;
-use crate::reports::write_audit;
-use crate::shared::{ServiceLimits, Shared, Workplace, listener_of};
+use crate::shared::{Workplace, listener_of, share};
 use crate::start::{Console, ServiceStart};
-use crate::workers::{Worker, work_all};
+use crate::workers::work_all;
 use agreed_list::{AgreedList, Half};
 use job_lane::{Lane, LaneKeeper, LaneSeat};
+use service_context::{Naming, Shared, WorkerContext};
+use service_control::{Control, ServiceFault};
+use service_front::{ServiceLimits, ServiceOptions};
 use service_runtime::{Documents, Observer, Stage};
-use shared_hub::{Caller, HubFault, HubKeeper, ShardLog, SharedHub};
+use service_workers::{Worker, assign_threads, collect_callers};
+use shared_hub::{Caller, HubKeeper, ShardLog, SharedHub};
 use std::alloc::{AllocError, Global};
-use std::io;
-use std::io::{BufRead, ErrorKind, Write};
+use std::io::{BufRead, Write};
 use std::marker::Brand;
 use std::net::{Net, TcpListener, TcpStream};
 use std::sync::Wait;
@@ -42,54 +37,6 @@ use std::thread::Threads;
 use std::time::Clock;
 use tail_settings::Settings;
 use tenant_registry::{Change, ChangeList, InForce, Noted, Registrar, Roster};
-use thiserror::Error;
-
-/// Why a service ended early, or what it met on its way.
-#[derive(Clone, Copy, Debug, Drop, PartialEq, Eq, Error)]
-pub enum ServiceFault {
-    /// The clock or the input failed.
-    #[error("input or output fault")]
-    Line,
-    /// There was no memory.
-    #[error("out of memory")]
-    OutOfMemory,
-    /// A thread couldn't be started.
-    #[error("no thread")]
-    NoThread,
-}
-
-impl From<AllocError> for ServiceFault {
-    ghost from_gives = { λ _ given. given ≡ faults.OutOfMemory };
-
-    fn from(_error: AllocError) -> ServiceFault {
-        ServiceFault::OutOfMemory
-    }
-}
-
-/// Of the input only the want of memory is told apart.
-impl From<io::Error> for ServiceFault {
-    ghost from_gives = { λ error given. IsOfLine (error_kind error) given };
-
-    fn from(error: io::Error) -> ServiceFault {
-        if error.kind() == ErrorKind::OutOfMemory {
-            ServiceFault::OutOfMemory
-        } else {
-            ServiceFault::Line
-        }
-    }
-}
-
-/// Of a hub's faults only the want of memory comes.
-impl From<HubFault> for ServiceFault {
-    ghost from_gives = { λ fault given. given ≡ of_hub fault };
-
-    fn from(fault: HubFault) -> ServiceFault {
-        match fault {
-            HubFault::OutOfMemory => ServiceFault::OutOfMemory,
-            HubFault::Behind { .. } | HubFault::OtherEntry { .. } => ServiceFault::Line,
-        }
-    }
-}
 
 /// Serves under these settings until the input ends and all tenants have sent what they held: as many receivers and
 /// senders as the options say, or else the settings, a turner for each shard, and one lane. With an admin port
@@ -122,7 +69,10 @@ where
         + limits.admins as usize;
     let ServiceOptions { audit, keys, .. } = start.options;
     let lane_size = global.lane_size as usize;
-    // Who reads the input has a caller too, and no seat.
+    // The hub comes last: no later step can fail and has to drop it.
+    let changes = AgreedList::open(start.alloc)?;
+    let (lane, lane_keeper, seats) = Lane::open(start.alloc, lane_size, workers)?;
+    // The control thread has a caller too, and no seat.
     let (hub, keeper, callers) = SharedHub::open(
         start.rt,
         start.alloc,
@@ -131,8 +81,6 @@ where
         audit,
         keys,
     )?;
-    let (lane, lane_keeper, seats) = Lane::open(start.alloc, lane_size, workers)?;
-    let changes = AgreedList::open(start.alloc)?;
     let opened = Opened {
         hub,
         keeper,
@@ -198,6 +146,7 @@ where
         start.now.options.audit (I.remaining console.old.input) (O.contents console.old.output)
         (O.contents console.new.output)) }
 {
+    let roster = Roster::of(start.alloc, &settings)?;
     let Opened {
         hub,
         keeper,
@@ -208,7 +157,6 @@ where
         changes,
     } = opened;
     let (list, own, other) = changes;
-    let roster = Roster::of(start.alloc, &settings)?;
     let settings = InForce::<J>::new(settings, Noted::<J>::new(other));
     let list = ChangeList::<J>::new(list);
     let workplace = Workplace::<J>::new(start.alloc, settings, list, hub, lane, &limits)?;
@@ -309,10 +257,11 @@ where
         (present_in roster) (length J.slots) (I.remaining console.old.input) J.fresh
         (O.contents console.old.output) r.0.items (O.contents console.new.output) r.2) }
 {
-    let shared = Shared::at(start, workplace, limits, callers.len())?;
+    let threads = callers.len();
+    let (all_callers, all_seats) = room_for(start.alloc, threads)?;
+    let shared = share(start, workplace, limits, threads)?;
     let shards = shared.hub.shards();
     prove!(0 < shards);
-    let (all_callers, all_seats) = room_for(shared.alloc, shared.threads)?;
     let Some(own) = callers.pop() else {
         unreachable!()
     };

@@ -1,6 +1,6 @@
 //! What a service is started with.
 
-use crate::options::ServiceOptions;
+use service_front::ServiceOptions;
 use service_runtime::AdminPort;
 use std::alloc::Global;
 use std::net::TcpListener;

@@ -1,5 +1,5 @@
 use Rattle.std.proofs.Common.{All, length, rules, subst}
-use Rattle.trace_service.specs.Jobs.{IsThread}
+use Rattle.service_workers.specs.Jobs.{IsThread}
 use Rattle.trace_service.proofs.service.all_work.Goals as goal
 
 pub returns-clause-did : goal.returns-clause-did

@@ -7,11 +7,11 @@ use Rattle.trace_service.specs.Audit.{audit_text, IsFollowed}
 use Rattle.trace_service.specs.Whole.{IsServed}
 use Rattle.trace_service.proofs.Audited.{are_kept, are_numbered}
 use Rattle.trace_service.proofs.Coursed.{course_told}
-use Rattle.trace_service.proofs.Jobs.{threads_told}
+use Rattle.service_workers.proofs.Jobs.{threads_told}
 use Rattle.std.proofs.lemmas.List.Elements.{All-map}
 use Rattle.std.proofs.lemmas.Result.{IfOk-weaker}
 use Rattle.tail_settings.specs.Settings.{TenantData, settings_view, tenant_view}
-use Rattle.trace_service.proofs.Standing.{after_lines}
+use Rattle.service_control.proofs.Standing.{after_lines}
 use Rattle.trace_service.proofs.service.run_named.Goals as goal
 
 pub close-totals-requires-clause-same_lane : goal.close-totals-requires-clause-same_lane

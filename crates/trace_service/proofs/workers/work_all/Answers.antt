@@ -1,5 +1,5 @@
 use Rattle.std.proofs.Common.{length, subst, arith}
-use Rattle.trace_service.specs.Jobs.{IsThread}
+use Rattle.service_workers.specs.Jobs.{IsThread}
 use Rattle.trace_service.proofs.workers.work_all.Goals as goal
 
 pub returns : goal.returns

@@ -1,0 +1,4 @@
+pub mod Lines
+pub mod CommandReply
+pub mod Figures
+pub mod Pages

@@ -1,0 +1,5 @@
+mod Places
+pub mod Jobs
+mod Received
+mod Rising
+mod Given

@@ -1,5 +1,0 @@
-use Rattle.trace_service.proofs.Given.{popped_were_given}
-use Rattle.trace_service.proofs.popped_jobs_were_given.Goals as goal
-
-pub returns : goal.returns
-returns c = popped_were_given c.pops_were_pushed.ensures
