@@ -41,8 +41,9 @@ fn figures_of<J: Naming, R: Wait + Clock>(
     context: &mut WorkerContext<'_, J, R>,
     tenants: &[Present],
 ) -> Result<Vec<TenantFigures>, AllocError>
-    ensures looked { IfOk result (λ figures. AreLooked (length context.old.hub.now) context.old.caller
-        (map entry_of tenants.now) (map tenant_of figures.items) context.new.caller) }
+    ensures looked { IfOk result (λ figures. AreLooked (length context.old.hub.now)
+        context.old.caller (map entry_of tenants.now) (map tenant_of figures.items)
+        context.new.caller) }
     ensures looks { OnErr result (OnlyLooks (length context.old.hub.now) context.old.caller
         context.new.caller) }
 {
@@ -59,8 +60,9 @@ fn add_figures<J: Naming, R: Wait + Clock>(
     tenant: &Present,
     figures: &mut Vec<TenantFigures>,
 ) -> Result<(), AllocError>
-    ensures looked { OnOk result (LooksMore (length context.old.hub.now) tenant.now context.old.caller
-        context.new.caller (map tenant_of figures.old.items) (map tenant_of figures.new.items)) }
+    ensures looked { OnOk result (LooksMore (length context.old.hub.now) tenant.now
+        context.old.caller context.new.caller (map tenant_of figures.old.items)
+        (map tenant_of figures.new.items)) }
     ensures looks { OnErr result (OnlyLooks (length context.old.hub.now) context.old.caller
         context.new.caller) }
     ensures hub { context.new.hub ≡ context.old.hub }

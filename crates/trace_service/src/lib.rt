@@ -1,5 +1,5 @@
-//! The collector as a service, from its start to its end: threads that receive bodies, make turns, send jobs and hand in
-//! back ends' responses, over shards that they share.
+//! The collector as a service, from its start to its end: threads that receive bodies, make turns, send jobs and hand
+//! in back ends' responses, over shards that they share.
 //!
 //! [`run_service`] starts as many threads as its options and the settings say, and returns after the input has ended
 //! and all tenants have sent what they held. It locks no shard while it reads bytes, parses a body or sends a payload.
