@@ -36,6 +36,7 @@ checks:
 	@python3 tests/forgotten.py
 	@python3 tests/by_hand.py
 	@python3 tests/widths.py
+	@python3 tests/pages.py
 
 # Builds the program, makes a script of a body that is stored as a file, which is posted
 # before a worker asks for a job twice, one millisecond too early and in time, and replays it.
