@@ -6,11 +6,12 @@ PROGRAM = crates/trace_collector_program
 tried = said=$$(python3 tests/$(1) $(PROGRAM)/out/trace_collector_program $(2)) || { echo "$$said"; exit 1; }
 
 # The gate: the checks of the text, then the proofs of all crates and tests, the edits that must be refused, the tests,
-# the programs, and the scripts over the built program. The cost of each crate goes to standard error.
+# the programs, and the scripts over the built program. The cost of each crate goes to standard error; where it can't be
+# printed, a line says so and the gate goes on.
 test: checks
 	@command -v rt > /dev/null || { echo 'make: there is no command rt: docs/OPERATING.md names the toolchain' >&2; exit 1; }
 	@python3 tests/costs.py record -- rt ci
-	@python3 tests/costs.py >&2
+	-@python3 tests/costs.py >&2
 	@$(call tried,program.py)
 	@$(call tried,stories.py)
 	@$(call tried,script_lines.py)
@@ -56,8 +57,8 @@ replay: trace_collector
 	@echo 'A story: traces are kept or dropped, batched, sent again to a busy back end, and counted. Under each line of'
 	@echo 'the script (>) is its answer, both cut short.'
 	@echo '$$ ./trace_collector replay $(STORY).toml < $(STORY).script'
-	@./trace_collector replay $(STORY).toml < $(STORY).script | awk 'NR == FNR { told[NR] = $$0; next } \
-	    /^#|^$$/ { print; next } { print "> " substr($$0, 1, 78); print "  " substr(told[++n], 1, 218) }' - $(STORY).script
+	@./trace_collector replay $(STORY).toml < $(STORY).script | awk 'NR == FNR { said[NR] = $$0; next } \
+	    /^#|^$$/ { print; next } { print "> " substr($$0, 1, 78); print "  " substr(said[++n], 1, 218) }' - $(STORY).script
 
 # Builds the program, starts it as a service with two tenants and a back end for each, and shows
 # what arrives there and what is counted.
@@ -74,7 +75,7 @@ BODY = examples/trace.pb
 SCRIPT = out/script
 STORY = examples/story
 
-# Proves and builds the program and the crates that it stands on, and says how far it is; nothing where nothing has changed.
+# Proves and builds the program and the crates below it, and says how far it is; nothing where nothing has changed.
 .PHONY: trace_collector
 trace_collector:
 	@python3 tests/build.py $(notdir $(PROGRAM)) ./trace_collector
@@ -92,7 +93,7 @@ EXAMPLES = $(DOCUMENTS)/examples
 PAGES = $(DOCUMENTS)/docs
 PICTURES = $(PAGES)/pictures
 
-# What stands in these folders under its own name.
+# What keeps its own name in these folders.
 EXAMPLES_TO_READ = trace.pb prometheus.yml alerts.yml nginx.conf
 OPERATORS_PAGES = $(addsuffix .md,OPERATING RUNBOOK SIZING SETTINGS HTTP SCRIPT)
 OPERATORS_PICTURES = admin-light.png admin-dark.png admin-narrow.png

@@ -8,27 +8,33 @@ Both run at the top of a repository. The command's output, status and signals ar
 it looks at the processes below the command. Those that name a crate are counted for it, with all that they start: its
 library, its tests (`--test`), its must-fail edits (folders rt-edit-*), its program, and runs of what was built (folders
 rt-run-*). What a process took after the last look comes from what the system counts for its parent. The rest is rt's own.
+A look that fails is dropped. Where out/costs.json can't be written, one line on standard error says so.
 
 The schedules are those of `rt ci` (`in_lanes`): its tasks are the proof, the tests and the edits of each crate. A task
 starts after those that it waits for, and first the one that most lines of code wait for. At the end programs and tests
 are run, one after the other. A task takes as long by the clock as it took of processors, and there is memory for all.
 With shared processors a proof gets up to four that are idle, and is done in that part of the time.
 """
+import contextlib
 import json
 import os
 import re
+import resource
 import signal
 import subprocess
 import sys
 import time
 from dataclasses import asdict, dataclass, field
 from pathlib import Path
+from threading import Event, Thread
 
 from build import below, lines_of
 
 ROOT = Path.cwd()
 LOG = ROOT / "out/costs.json"
 EVERY = 0.3
+# Seconds that the command's end waits for the last look at most.
+LAST_LOOK = 5
 TICKS = os.sysconf("SC_CLK_TCK")
 PASSED_ON = {signal.SIGINT, signal.SIGTERM, signal.SIGHUP, signal.SIGQUIT}
 # The code of a signal from the terminal, which the command gets too.
@@ -87,10 +93,10 @@ def processes(others):
         try:
             with open(f"/proc/{name}/stat", "rb") as file:
                 words = file.read().rpartition(b")")[2].split()
-        except OSError:
+            user, system, users, systems = (int(word) / TICKS for word in words[11:15])
+            found[int(name)] = Process(int(words[1]), int(words[19]), user + system, users + systems)
+        except (OSError, ValueError, IndexError):
             continue
-        user, system, users, systems = (int(word) / TICKS for word in words[11:15])
-        found[int(name)] = Process(int(words[1]), int(words[19]), user + system, users + systems)
     return found
 
 
@@ -167,46 +173,90 @@ def started(number, children):
     return [number, *(it for child in children.get(number, []) for it in started(child, children))]
 
 
-def watch(child, recorder):
-    """Looks until the command ends, and passes on signals that came to this process alone."""
-    while os.waitid(os.P_PID, child.pid, os.WEXITED | os.WNOWAIT | os.WNOHANG) is None:
+def sample(recorder, is_over):
+    """Looks until the command is over, and once then. No fault of a look is one of the command."""
+    is_last = False
+    while not is_last:
+        with contextlib.suppress(Exception):
+            recorder.look()
+        is_last = is_over.wait(EVERY)
+    with contextlib.suppress(Exception):
         recorder.look()
+
+
+def watch(child):
+    """Waits until the command ends, which is still to be waited for, and passes on signals that came to this process alone."""
+    while os.waitid(os.P_PID, child.pid, os.WEXITED | os.WNOWAIT | os.WNOHANG) is None:
         came = signal.sigtimedwait({*PASSED_ON, signal.SIGCHLD}, EVERY)
         if came and came.si_signo in PASSED_ON and came.si_code != FROM_KERNEL:
-            os.kill(child.pid, came.si_signo)
-    recorder.look()
+            with contextlib.suppress(OSError):
+                os.kill(child.pid, came.si_signo)
+
+
+@contextlib.contextmanager
+def sampled(recorder):
+    """Looks in a thread, so that a look that hangs keeps back no signal."""
+    is_over = Event()
+    sampler = Thread(target=sample, args=(recorder, is_over), daemon=True)
+    try:
+        sampler.start()
+    except (RuntimeError, MemoryError):
+        sampler = None
+    yield
+    is_over.set()
+    if sampler:
+        sampler.join(LAST_LOOK)
+
+
+def write(log):
+    """Writes out/costs.json whole. Where it can't, there is none, so that no table shows an earlier run."""
+    written = LOG.with_suffix(".new")
+    try:
+        LOG.parent.mkdir(exist_ok=True)
+        written.write_text(json.dumps(asdict(log), indent=1) + "\n")
+        written.replace(LOG)
+    except Exception as fault:
+        # Not by `print`, which fails again at the end of the process where nobody reads.
+        with contextlib.suppress(OSError):
+            os.write(2, f"costs.py: {LOG} is not written, and the run is as it was: {fault}\n".encode(errors="replace"))
+        for file in (written, LOG):
+            with contextlib.suppress(OSError):
+                file.unlink()
 
 
 def record(words):
     """Runs the command, and writes what it cost. Ends as it ended."""
     start = time.monotonic()
+    # Where this is ignored, as a parent may have it, the system keeps no status of the command.
+    signal.signal(signal.SIGCHLD, signal.SIG_DFL)
     before = signal.pthread_sigmask(signal.SIG_BLOCK, {*PASSED_ON, signal.SIGCHLD})
     try:
         child = subprocess.Popen(words, preexec_fn=lambda: signal.pthread_sigmask(signal.SIG_SETMASK, before))
     except OSError as fault:
         sys.exit(f"costs.py: {words[0]} can't be run: {fault.strerror}")
     recorder = Recorder(child.pid)
-    watch(child, recorder)
+    with sampled(recorder):
+        watch(child)
     _, status, used = os.wait4(child.pid, 0)
     child.returncode = status
     recorder.log.clock, recorder.log.processors = time.monotonic() - start, used.ru_utime + used.ru_stime
-    try:
-        LOG.parent.mkdir(exist_ok=True)
-        LOG.write_text(json.dumps(asdict(recorder.log), indent=1) + "\n")
-    except OSError as fault:
-        print(f"costs.py: {LOG} is not written: {fault}", file=sys.stderr)
+    write(recorder.log)
     return end_as(status, before)
 
 
 def end_as(status, mask):
-    """The command's exit status. Where a signal ended it, the same one ends this process."""
-    if os.WIFSIGNALED(status):
-        number = os.WTERMSIG(status)
-        if number in PASSED_ON:
-            signal.signal(number, signal.SIG_DFL)
-        signal.pthread_sigmask(signal.SIG_SETMASK, mask)
-        os.kill(os.getpid(), number)
-    return os.WEXITSTATUS(status)
+    """The command's exit status. Where a signal ended it, the same one ends this process, without a core file of its own."""
+    if not os.WIFSIGNALED(status):
+        return os.WEXITSTATUS(status)
+    number = os.WTERMSIG(status)
+    with contextlib.suppress(OSError, ValueError):
+        resource.setrlimit(resource.RLIMIT_CORE, (0, 0))
+    # Python ignores some, as SIGPIPE.
+    with contextlib.suppress(OSError, ValueError):
+        signal.signal(number, signal.SIG_DFL)
+    signal.pthread_sigmask(signal.SIG_SETMASK, mask)
+    os.kill(os.getpid(), number)
+    return 128 + number
 
 
 def lines(crate):
@@ -237,12 +287,12 @@ def longest(tasks):
 
 def clock(tasks, processors, are_shared):
     """Minutes by the clock until all tasks are done on so many processors."""
-    behind = dict.fromkeys(tasks, 0)
+    waiting = dict.fromkeys(tasks, 0)
     for key in reversed(list(tasks)):
-        behind[key] += tasks[key].lines
+        waiting[key] += tasks[key].lines
         for it in tasks[key].waits:
-            behind[it] = max(behind[it], behind[key])
-    left, running, done, now = sorted(tasks, key=lambda it: -behind[it]), [], set(), 0
+            waiting[it] = max(waiting[it], waiting[key])
+    left, running, done, now = sorted(tasks, key=lambda it: -waiting[it]), [], set(), 0
     while left or running:
         ready = [key for key in left if done.issuperset(tasks[key].waits)]
         for at, key in enumerate(ready):
@@ -304,4 +354,9 @@ if __name__ == "__main__":
         sys.exit(record(sys.argv[3:]))
     if len(sys.argv) > 2 or sys.argv[1:2] == ["record"]:
         sys.exit(__doc__)
-    show(sys.argv[1] if sys.argv[1:] else LOG)
+    file = sys.argv[1] if sys.argv[1:] else LOG
+    try:
+        show(file)
+        sys.stdout.flush()
+    except (OSError, ValueError, TypeError, KeyError) as fault:
+        sys.exit(f"costs.py: no table of {file}: {fault}")
