@@ -16,7 +16,9 @@ import subprocess
 import sys
 
 from demo import HERE, SETTINGS, are_shown, arrived, is_up, ports, post_all, say, start, start_back_ends, taken, wait_for
-from unproved import NOTICE, is_missing, note, program
+
+sys.path.insert(0, str(HERE / "tests"))
+from unproved import NOTICE, is_missing, note, program  # noqa: E402
 
 ADMIN = "127.0.0.1:19464"
 LISTEN, TENANTS = ports()
@@ -36,7 +38,7 @@ def ask(admin, method, path):
 
 
 def counters(admin, tenant):
-    """A tenant's counters that are not zero; in the answer they stand before its rows."""
+    """A tenant's counters that are not zero; in the answer they come before its rows."""
     status, body = ask(admin, "GET", f"/tenants/{tenant}")
     found = json.loads(body) if status == 200 else {}
     return {name: it for name, it in itertools.takewhile(lambda it: it[0] != "rows", found.items()) if name != "tenant" and it}

@@ -15,7 +15,8 @@ import time
 from pathlib import Path
 
 ROOT = Path(__file__).resolve().parent.parent
-PARTS = ("crates.txt", "HANDLES", "tests/build.py", "examples/service.toml", *(f"examples/{it}.py" for it in ("demo", "preview", "unproved")))
+PARTS = ("crates.txt", "HANDLES", "tests/build.py", "tests/unproved.py", "examples/service.toml", "examples/demo.py",
+         "examples/preview.py")
 FAILS = "#!/bin/sh\necho a fault in the crate >&2\nexit 2\n"
 HANGS = "#!/bin/sh\ntest \"$1\" = try || exit 0\ntrap '' TERM\nsetsid sh -c 'trap \"\" TERM; echo $$ > \"$PLACE/compiler\"; sleep 60; :'\n"
 

@@ -2,13 +2,15 @@
 """Runs the tests of crates, and scripts over the program, without proofs: `make try-test`.
 
 `rt try --test` compiles each crate of crates.txt that has tests, with checks of bounds, overflows and addresses, and runs
-them. tests/unproved.py builds the program so, and then the scripts that SCRIPTS names run over it unchanged. Two run at a
-time where there are two processors and 7 GB are free. Each prints a line as it ends: its name, how many tests or cases
-passed, and seconds. For one that fails the last lines of its output follow. The last line counts all. Ends with 1 where
-one failed. It proves nothing, and tries no must-fail edit and no service: `make test` does.
+them. tests/unproved.py builds the program so, unless it is built already, and then the scripts that SCRIPTS names run over
+it unchanged. Two run at a time where there are two processors and 7 GB are free. Each prints a line as it ends: its name,
+how many tests or cases passed, and seconds. For one that fails the last lines of its output follow. The last line counts
+all. Ends with 1 where one failed. It proves nothing, and tries no must-fail edit and no service: `make test` does.
 """
+import contextlib
 import os
 import re
+import signal
 import subprocess
 import sys
 import time
@@ -16,10 +18,9 @@ from concurrent.futures import ThreadPoolExecutor, as_completed
 from dataclasses import dataclass
 from pathlib import Path
 
-import unproved
 from build import ROOT, below, lines_of
+from unproved import KEPT, end_hint
 
-PROGRAM = ROOT / "out/try/trace_collector"
 SCRIPTS = ("program.py", "stories.py", "random_scripts.py", "script_lines.py")
 TEST = re.compile(r"^\s*#\[test\]", re.M)
 TESTS = re.compile(r"^test result: \w+\. (\d+) passed; (\d+) failed", re.M)
@@ -28,6 +29,9 @@ CASES = re.compile(r"(\d+) (?:stories|scripts of \d+ lines), (\d+) (?:failed|wro
 MEMORY = 7_000_000
 MOST_SECONDS = 300
 LAST_LINES = 40
+EVERY = 0.2
+# What runs now. Each is in a session of its own, and takes one signal, from `end`.
+running = set()
 
 
 @dataclass
@@ -59,11 +63,24 @@ def counted(said, status):
     return passed, max(failed, int(status != 0))
 
 
-def run(name, words, folder):
+def said_by(process, has_hint):
+    """What a process says until its end. Where it is `rt try`, its hint is ended as soon as it is there."""
+    while has_hint:
+        try:
+            return process.communicate(timeout=EVERY)[0]
+        except subprocess.TimeoutExpired:
+            has_hint = not end_hint(process.pid)
+    return process.communicate()[0]
+
+
+def run(name, words, folder, has_hint=False):
     start = time.monotonic()
-    done = subprocess.run(words, cwd=folder, stdin=subprocess.DEVNULL, stdout=subprocess.PIPE, stderr=subprocess.STDOUT,
-                          errors="replace", check=False)
-    return Result(name, *counted(done.stdout, done.returncode), time.monotonic() - start, done.stdout)
+    with subprocess.Popen(words, cwd=folder, stdin=subprocess.DEVNULL, stdout=subprocess.PIPE, stderr=subprocess.STDOUT,
+                          errors="replace", start_new_session=True) as process:
+        running.add(process)
+        said = said_by(process, has_hint)
+    running.discard(process)
+    return Result(name, *counted(said, process.returncode), time.monotonic() - start, said)
 
 
 def try_crate(name):
@@ -71,19 +88,17 @@ def try_crate(name):
 
 
 def build():
-    start, said = time.monotonic(), ""
-    try:
-        unproved.build(PROGRAM)
-    except SystemExit as fault:
-        said = str(fault)
-    return Result("trace_collector_program is built", 0, bool(said), time.monotonic() - start, said)
+    """Calls `program()` of tests/unproved.py, in a process of its own that takes a signal as the others do."""
+    result = run("trace_collector_program is built", [sys.executable, str(ROOT / "tests/unproved.py")], ROOT)
+    result.passed = 0
+    return result
 
 
 def try_script(name, built):
     """Runs the script once the program is built."""
     if built.result().failed:
         return Result(name, 0, 1, 0, "not run: the program was not built")
-    return run(name, [sys.executable, str(ROOT / "tests" / name), str(PROGRAM)], ROOT)
+    return run(name, [sys.executable, str(ROOT / "tests" / name), str(ROOT / KEPT)], ROOT)
 
 
 def lanes():
@@ -99,6 +114,13 @@ def show(result):
         print("".join(f"    {line}\n" for line in result.said.splitlines()[-LAST_LINES:]), end="", flush=True)
 
 
+def end(left):
+    for it in left:
+        with contextlib.suppress(OSError):
+            if it.poll() is None:
+                os.killpg(it.pid, signal.SIGTERM)
+
+
 def results():
     """Each result as it is there."""
     with ThreadPoolExecutor(lanes()) as pool:
@@ -110,18 +132,26 @@ def results():
         finally:
             for it in left:
                 it.cancel()
+            end(list(running))
 
 
 def main():
     passed = failed = 0
-    for result in results():
-        show(result)
-        passed, failed = passed + result.passed, failed + result.failed
+    with contextlib.closing(results()) as found:
+        for result in found:
+            show(result)
+            passed, failed = passed + result.passed, failed + result.failed
     print(f"{passed} passed, {failed} failed")
     return min(failed, 1)
 
 
+def ends_by(number, _):
+    sys.exit(128 + number)
+
+
 if __name__ == "__main__":
+    for ending in (signal.SIGTERM, signal.SIGHUP):
+        signal.signal(ending, ends_by)
     try:
         sys.exit(main())
     except KeyboardInterrupt:
