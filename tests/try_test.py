@@ -6,6 +6,9 @@ them. tests/unproved.py builds the program so, unless it is built already, and t
 it unchanged. Two run at a time where there are two processors and 7 GB are free. Each prints a line as it ends: its name,
 how many tests or cases passed, and seconds. For one that fails the last lines of its output follow. The last line counts
 all. Ends with 1 where one failed. It proves nothing, and tries no must-fail edit and no service: `make test` does.
+
+Beside each build `rt try` starts a `rattle check`, whose only use is a hint on names. It takes half of the seconds of
+processors, so it is ended here; counts and statuses are those of the tests.
 """
 import contextlib
 import os
@@ -84,7 +87,7 @@ def run(name, words, folder, has_hint=False):
 
 
 def try_crate(name):
-    return run(name, ["rt", "try", "--test", "--seconds", str(MOST_SECONDS)], ROOT / "crates" / name)
+    return run(name, ["rt", "try", "--test", "--seconds", str(MOST_SECONDS)], ROOT / "crates" / name, has_hint=True)
 
 
 def build():
