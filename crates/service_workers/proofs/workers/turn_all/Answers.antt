@@ -1,3 +1,4 @@
+use Rattle.std.proofs.Common.{length}
 use Rattle.service_workers.proofs.Jobs.{turner_did}
 use Rattle.service_workers.proofs.workers.turn_all.Goals as goal
 
