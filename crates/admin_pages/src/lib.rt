@@ -3,7 +3,7 @@
 //! [`admin_route`] says what a request asks for, and the others spell what it is answered: a tenant's figures in JSON
 //! or in a report's line, the service's, the settings in force, and all of them as metrics. Each is the text that
 //! `specs/` has of the figures. Names of metrics are by the conventions of OpenMetrics 1.0, and JSON is RFC 8259's
-//! (docs/ADMIN.md, docs/METRICS.md).
+//! (docs/OPERATING.md, docs/RUNBOOK.md).
 //!
 //! It stands on `tail_settings` for the settings that it shows and, in `specs/`, on `drop_ledger` for what a tenant's
 //! counters are; numbers are spelled by the library's `itoa`.

@@ -7,9 +7,9 @@
 //! [`Single`] gathers it in a walk of them all, and [`MAX_BODY`] says how long a body may be.
 //!
 //! Rules are those of RFC 9110 and RFC 9112, with this project's own choices where they leave one (docs/HTTP.md).
-//! Heads, the lines of chunks and trailers are read by `httparse`, and an answer's chunks by `http1`, which also says
-//! how a message is framed. Methods are those of `http`. It stands on `http_line` for the line, and on `send_retry` for
-//! what an answer comes to.
+//! `httparse` reads heads, chunk lines and trailers, of requests and of answers. `http1` says how a message is framed,
+//! and decodes an answer's body that is not in chunks. Methods are those of `http`. The crate uses `http_line` for the
+//! line, and `send_retry` for what an answer means.
 #![tactic(auto)]
 
 mod answer;

@@ -38,7 +38,7 @@ fn why_not(alloc: Global, path: &[u8]) -> Option<NotAdded> {
     }
 }
 
-/// Where a file can't be read, or has no text, what is told is that it has no document: 10 (docs/ADMIN.md).
+/// Where a file can't be read, or has no text, what is told is that it has no document: 10 (docs/SETTINGS.md).
 #[test]
 fn a_document_is_read_or_why_not_is_told(rt: HostRuntime) {
     let alloc = rt.alloc();

@@ -1,6 +1,6 @@
 //! Tests of `tenant_registry`: settings in force that are changed and looked at, who is present, documents that are
 //! read or not, and what whoever asks for a change and whoever is refused is told. What is wanted was written by hand
-//! after docs/ADMIN.md, docs/FAULTS.md, docs/HTTP.md and docs/SETTINGS.md.
+//! after docs/OPERATING.md, docs/HTTP.md and docs/SETTINGS.md.
 #![tactic(auto)]
 
 #[cfg(test)]

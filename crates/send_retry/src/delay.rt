@@ -14,9 +14,9 @@ pub enum NextDelay {
     GiveUp,
 }
 
-/// When the batch is sent again after an answer at the moment `now`, in milliseconds, where the back end asked for a
-/// wait of so many seconds, 0 for none. No moment is above 2^62. The word picks the delay among those that the
-/// settings allow. It takes no memory.
+/// When the batch is sent again after an answer at the time `now`, in milliseconds and at most 2^62, if the back end
+/// asked for a wait of `wait_s` seconds, 0 for none. The next attempt may be due later than 2^62. The random word picks
+/// the delay among those that the settings allow. It takes no memory.
 pub fn next_delay(state: &RetryState, now: u64, word: u32, wait_s: u32) -> NextDelay
     requires moment { now ≤ 2 ^ 62 }
     ensures { next_view result ≡ next_delay (state_view state.now) now word wait_s }

@@ -5,7 +5,7 @@ use std::sync::atomic::{AtomicUsize, Ordering};
 use std::sync::{Mutex, MutexGuard, Wait};
 
 /// So many gates a group of tenants has. Behind four posts of a hundred spans each a turn takes out more than they
-/// bring in, and a single post of another tenant doesn't wait for long (docs/BENCHMARKS.md).
+/// bring in, and a single post of another tenant doesn't wait for long.
 const GATES: usize = 4;
 
 /// So many groups there are: tenants whose numbers are alike modulo this have gates in common.

@@ -158,7 +158,7 @@ pub const ANY_POLICY: [Key; 8] = [
     Key::AndSubPolicy,
 ];
 
-// What each key may be, in words. docs/FAULTS.md has them as they stand here.
+// What each key may be, in words. tests/settings/faults.list has the same words.
 
 pub const GLOBAL_MAY_BE: &str = "a table, or missing";
 

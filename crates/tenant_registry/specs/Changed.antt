@@ -74,8 +74,8 @@ pub data TellsFaulty (document otherwise : List ℕ) (told : Response) : Type 0 
   by_itself : (report doubts : List ℕ) → IsFileReport document true report doubts
       → told ≡ notice_of 422 (codes "error") otherwise → TellsFaulty document otherwise told
 
--- what is told of a tenant that was refused for this (docs/FAULTS.md), unless its document is to be looked at: its name
--- is taken (409, RFC 9110, section 15.5.10)
+-- what is told of a tenant that was refused for this (docs/SETTINGS.md), unless its document is to be looked at: its
+-- name is taken (409, RFC 9110, section 15.5.10)
 abbrev pub refused_reply : List ℕ → Option Response
 refused_reply why =
     if bytes_eq why (codes "14\n") then Some (notice_of 409 (codes "error") (codes "a tenant of that name is present"))
